@@ -1,0 +1,2 @@
+-- Facts about the rules, each stated once and cited from everywhere.
+pub mod Tests

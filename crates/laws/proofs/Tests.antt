@@ -1,0 +1,25 @@
+-- Tests: deciding by one, and taking a conjunction or a disjunction apart.
+-- Assumes nothing.
+use mathlib.Core.Path.{_≡_, refl}
+use mathlib.Core.Bool.{Bool, true, false, not, _&&_, _||_, true≢false, false≢true}
+
+-- a goal by the two outcomes of a test
+pub byTest : {C : Type 0} (t : Bool) → (t ≡ true → C) → (t ≡ false → C) → C
+byTest true y n = y refl
+byTest false y n = n refl
+
+pub both : (a b : Bool) → (a && b) ≡ true → (a ≡ true) × (b ≡ true)
+both true b h = (refl, h)
+both false b h = absurd (false≢true h)
+
+pub and-true : (a b : Bool) → a ≡ true → b ≡ true → (a && b) ≡ true
+and-true true b g h = h
+and-true false b g h = absurd (false≢true g)
+
+pub neither : (a b : Bool) → (a || b) ≡ false → (a ≡ false) × (b ≡ false)
+neither true b h = absurd (true≢false h)
+neither false b h = (refl, h)
+
+pub or-false : (a b : Bool) → a ≡ false → b ≡ false → (a || b) ≡ false
+or-false true b g h = absurd (true≢false g)
+or-false false b g h = h

@@ -1,0 +1,43 @@
+-- Section 2: set-up.
+use Prim.Native.Nat.{ℕ, zero, suc, _*_}
+use mathlib.Core.Bool.{Bool, cond, not}
+use mathlib.Core.List.{List, [], _∷_}
+use lib.ListN.{length}
+use lib.Dec.{ltb, eqb}
+use Rattle.rules.specs.declared.Config.{Config}
+use Rattle.rules.specs.declared.Answer.{Answer}
+use Rattle.rules.specs.declared.Answer.the-variants.{Done}
+use Rattle.rules.specs.declared.Refusal.the-variants.{WrongSize, BrokenRule}
+use Rattle.rules.specs.Memory.{ramBytes, blocks, heapBlock, safeBlock, mapBytes, perByte, setCodes, startCode, laterCode, freeCode, trusted}
+use Rattle.rules.specs.State.{goodConfig, fresh, zeros}
+use Rattle.rules.specs.Answers.{_⇒_∣_, Given, give}
+
+-- "block 0 gets 15, the other blocks below heap 14; heap blocks 15; the first block of the safe stack area, if there is one, 15
+-- and its others 14. If n is odd the unused half is 15."
+unfoldable pub setUpCode : Config → ℕ → ℕ
+setUpCode c k =
+    cond (eqb k 0) (startCode trusted)
+    (cond (ltb k (heapBlock c)) (laterCode trusted)
+    (cond (ltb k (safeBlock c)) freeCode
+    (cond (eqb k (safeBlock c)) (startCode trusted)
+    (cond (ltb k (blocks c)) (laterCode trusted)
+    freeCode))))
+
+-- those of the n places from k on
+unfoldable pub setUpCodes : Config → ℕ → ℕ → List ℕ
+setUpCodes c k zero = []
+setUpCodes c k (suc n) = setUpCode c k ∷ setUpCodes c (suc k) n
+
+-- "Set-up writes the map and nothing else": every place of its m bytes
+unfoldable pub setUpRam : Config → List ℕ → List ℕ
+setUpRam c ram = setCodes (c .bot) ram 0 (setUpCodes c 0 (mapBytes c * perByte))
+
+abbrev pub setUpAnswer : Config → List ℕ → Answer
+setUpAnswer c ram =
+    not (eqb (length ram) ramBytes) ⇒ WrongSize ∣
+    not (goodConfig c) ⇒ BrokenRule ∣
+    Done 0
+
+-- "a refused set-up hands back a state of zeros"
+abbrev pub setUpOf : Config → List ℕ → Given
+setUpOf c ram = give (setUpAnswer c ram) zeros ram (fresh c) (setUpRam c ram)
