@@ -1,2 +1,6 @@
 -- Facts about the rules, each stated once and cited from everywhere.
 pub mod Tests
+pub mod Frames
+pub mod Parts
+pub mod Search
+pub mod Segments
