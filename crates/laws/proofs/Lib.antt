@@ -1,3 +1,5 @@
 -- Facts about the rules, each stated once and cited from everywhere.
 pub mod Tests
 pub mod Digits
+pub mod AllBelow
+pub mod Map
