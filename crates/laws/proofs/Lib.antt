@@ -3,3 +3,5 @@ pub mod Tests
 pub mod Digits
 pub mod AllBelow
 pub mod Map
+pub mod Codes
+pub mod View
