@@ -2,7 +2,7 @@
 -- Assumes nothing.
 use Prim.Native.Nat.{ℕ, zero, suc, _<_}
 use mathlib.Core.List.{List, [], _∷_, _++_}
-use lib.ListN.{getD, replicate}
+use lib.ListN.{replicate}
 
 pub data AllBelow (r : ℕ) : List ℕ → Type 0 where
   none : AllBelow r []
@@ -16,8 +16,3 @@ module _ (r : ℕ) where
   pub all-append : (xs ys : List ℕ) → AllBelow r xs → AllBelow r ys → AllBelow r (xs ++ ys)
   all-append [] ys none below = below
   all-append (x ∷ xs) ys (one h hs) below = one h (all-append xs ys hs below)
-
-  pub all-getD : (vs : List ℕ) (i : ℕ) → 0 < r → AllBelow r vs → getD vs i 0 < r
-  all-getD [] i pos none = pos
-  all-getD (v ∷ vs) zero pos (one h hs) = h
-  all-getD (v ∷ vs) (suc i) pos (one h hs) = all-getD vs i pos hs

@@ -1,10 +1,9 @@
 -- The meaning of a code: free, the start of a segment of a domain, or a later block of one.
 -- Assumes nothing.
 use Prim.Native.Nat.{ℕ, zero, suc, _+_, _*_, _%_, _≤_, _<_}
-use mathlib.Core.Path.{_≡_, refl, sym, _∙_}
+use mathlib.Core.Path.{_≡_, refl, sym}
 use mathlib.Core.Logic.{_≢_}
-use mathlib.Core.Bool.{Bool, true, false, not, cond, _&&_}
-use mathlib.Core.List.{List, [], _∷_}
+use mathlib.Core.Bool.{Bool, true, false, not, cond}
 use native.Mathlib.Omega.{arith}
 use borrow.Author.Tests.{eqb-true, eqb-false, not-true, ne-eqb, eq-eqb}
 use lib.Dec.{eqb, ltb}
@@ -147,7 +146,7 @@ pub decode-later : (d : ℕ) → decode (laterCode d) ≡ later d
 unfolding decode
 decode-later d = rw (ne-eqb (laterCode d) freeCode (later≢free d), starts-later d, ownerOf-later d) refl
 
--- whether a code starts a segment is its lowest bit, free apart
+-- every code is the code of its meaning
 pub encode-decode : (code : ℕ) → encode (decode code) ≡ code
 unfolding decode startsSegment ownerOf startCode laterCode freeCode
 encode-decode code =

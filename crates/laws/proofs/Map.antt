@@ -1,18 +1,18 @@
 -- Codes packed in the bytes of the map: reading after writing, what a write leaves alone, and that the codes determine the bytes.
 -- Assumes nothing.
 use Prim.Native.Nat.{ℕ, zero, suc, _+_, _-_, _*_, _^_, _≤_, _<_}
-use mathlib.Core.Path.{_≡_, refl, sym, ap, _∙_}
+use mathlib.Core.Path.{_≡_, refl, sym, _∙_}
 use mathlib.Core.Logic.{_≢_}
 use mathlib.Core.List.{List, [], _∷_, _++_}
 use native.Mathlib.Nat.{mod-lt, add-zero, add-suc, suc-add}
 use native.Mathlib.Decide.{ℕ-discrete}
 use native.Mathlib.Omega.{arith}
 use borrow.Author.Tests.{ltb-true, ltb-false}
-use lib.ListN.{length, getD, set, length-set}
+use lib.ListN.{length, getD, length-set}
 use lib.Seq.{getD-set-same, getD-set-other, set-out}
 use lib.Dec.{ltb}
 use Rattle.rules.specs.declared.RamByte.{RamByte}
-use Rattle.rules.specs.Memory.{dividedUp, radix, perByte, mapBytesFor, mapByte, mapDigit, digit, setDigit, codeOf, setCode, setCodes}
+use Rattle.rules.specs.Memory.{dividedUp, radix, perByte, mapBytesFor, mapByte, mapDigit, setDigit, codeOf, setCode, setCodes}
 use Rattle.laws.proofs.Tests.{byTest}
 use Rattle.laws.proofs.Digits.{digit-lt, digit-same, digit-other, setDigit-lt, digits-ext}
 use Rattle.laws.proofs.AllBelow.{AllBelow, none, one}

@@ -1,9 +1,9 @@
 -- The codes of a run of blocks as a list, so that nothing above looks at bytes: a write of codes is a store in the list.
 -- Assumes nothing.
 use Prim.Native.Nat.{ℕ, zero, suc, _+_, _-_, _≤_, _<_}
-use mathlib.Core.Path.{_≡_, refl, sym, ap, _∙_}
+use mathlib.Core.Path.{_≡_, refl, ap, _∙_}
 use mathlib.Core.List.{List, [], _∷_, _++_}
-use native.Mathlib.Nat.{add-zero, zero-add, add-suc, suc-add}
+use native.Mathlib.Nat.{add-zero, zero-add, add-suc, suc-add, sub-zero, zero-sub, suc-sub-suc}
 use native.Mathlib.Decide.{ℕ-discrete}
 use native.Mathlib.Omega.{arith}
 use lib.ListN.{length, getD, set, take, drop, length-set}
@@ -11,7 +11,7 @@ use lib.Seq.{getD-set-same, getD-set-other, ext-getD, sets, sets-eq}
 use Rattle.rules.specs.declared.RamByte.{RamByte}
 use Rattle.rules.specs.Memory.{radix, mapByte, codeOf, setCode, setCodes}
 use Rattle.laws.proofs.AllBelow.{AllBelow, none, one}
-use Rattle.laws.proofs.Map.{code-same, code-other, length-setCode, codes-outside}
+use Rattle.laws.proofs.Map.{code-same, code-other, length-setCode, codes-inside, codes-outside}
 
 -- the codes of the n blocks from k on
 unfoldable pub codesFrom : RamByte → List ℕ → ℕ → ℕ → List ℕ
@@ -36,6 +36,18 @@ module _ (bot : RamByte) where
   codesFrom-append ram k (suc n) m =
       rw (suc-add n m, add-suc, ← suc-add k n) (ap (λ (l : List ℕ). codeOf bot ram k ∷ l) (codesFrom-append ram (suc k) n m))
 
+  pub take-codesFrom : (ram : List ℕ) (k n i : ℕ) → i ≤ n → take i (codesFrom bot ram k n) ≡ codesFrom bot ram k i
+  unfolding codesFrom
+  take-codesFrom ram k n zero h = refl
+  take-codesFrom ram k zero (suc i) h = absurd (omega arith)
+  take-codesFrom ram k (suc n) (suc i) h = ap (λ (l : List ℕ). codeOf bot ram k ∷ l) (take-codesFrom ram (suc k) n i (omega arith))
+
+  pub drop-codesFrom : (ram : List ℕ) (k n i : ℕ) → drop i (codesFrom bot ram k n) ≡ codesFrom bot ram (k + i) (n - i)
+  unfolding codesFrom
+  drop-codesFrom ram k n zero = rw (add-zero, sub-zero) refl
+  drop-codesFrom ram k zero (suc i) = rw zero-sub refl
+  drop-codesFrom ram k (suc n) (suc i) = rw (add-suc, ← suc-add, suc-sub-suc) (drop-codesFrom ram (suc k) n i)
+
   pub codesFrom-same : (ram ram′ : List ℕ) (k n : ℕ) → ((j : ℕ) → k ≤ j → j < k + n → codeOf bot ram j ≡ codeOf bot ram′ j)
       → codesFrom bot ram k n ≡ codesFrom bot ram′ k n
   unfolding codesFrom
@@ -50,7 +62,20 @@ module _ (bot : RamByte) where
   codesFrom-outside ram j vs k n below out =
       codesFrom-same (setCodes bot ram j vs) ram k n (λ i g h. codes-outside bot ram j vs i below (out i g h))
 
+  pub codesFrom-other : (ram : List ℕ) (j v k n : ℕ) → v < radix → (k ≤ j → k + n ≤ j)
+      → codesFrom bot (setCode bot ram j v) k n ≡ codesFrom bot ram k n
+  codesFrom-other ram j v k n l out =
+      codesFrom-same (setCode bot ram j v) ram k n (λ i g h. code-other bot ram j v i l (λ e. omega (arith, out (omega arith))))
+
   -- ---- a write within the run
+
+  pub codesFrom-written : (ram : List ℕ) (j : ℕ) (vs : List ℕ) → AllBelow radix vs
+      → ((i : ℕ) → j ≤ i → i < j + length vs → mapByte bot i < length ram) → codesFrom bot (setCodes bot ram j vs) j (length vs) ≡ vs
+  codesFrom-written ram j vs below inside =
+      ext-getD 0 (codesFrom bot (setCodes bot ram j vs) j (length vs)) vs (length-codesFrom (setCodes bot ram j vs) j (length vs))
+      (λ i b. let l : i < length vs = simp length-codesFrom at b in
+      getD-codesFrom (setCodes bot ram j vs) j (length vs) i l
+      ∙ codes-inside bot ram j vs i below l (inside (j + i) (omega arith) (omega arith)))
 
   pub codesFrom-setCode : (ram : List ℕ) (j v k n : ℕ) → v < radix → mapByte bot j < length ram → k ≤ j → j < k + n
       → codesFrom bot (setCode bot ram j v) k n ≡ set (codesFrom bot ram k n) (j - k) v
