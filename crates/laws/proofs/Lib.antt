@@ -1,5 +1,10 @@
 -- Facts about the rules, each stated once and cited from everywhere.
 pub mod Tests
+pub mod Digits
+pub mod AllBelow
+pub mod Map
+pub mod Codes
+pub mod View
 pub mod Frames
 pub mod Parts
 pub mod Search
