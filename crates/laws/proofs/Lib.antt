@@ -1,2 +1,3 @@
 -- Facts about the rules, each stated once and cited from everywhere.
 pub mod Tests
+pub mod Rounding
