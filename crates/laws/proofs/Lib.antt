@@ -1,3 +1,4 @@
 -- Facts about the rules, each stated once and cited from everywhere.
 pub mod Tests
 pub mod Rounding
+pub mod Blocks
