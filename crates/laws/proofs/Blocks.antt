@@ -4,11 +4,11 @@
 use Prim.Native.Nat.{ℕ, suc, _+_, _-_, _*_, _/_, _%_, _<_, _≤_}
 use mathlib.Core.Path.{_≡_}
 use mathlib.Core.Bool.{true}
-use native.Mathlib.Nat.{lt-of-not-le, suc-mul, mul-le-mul-right, div-mul-le-self, lt-div-mul-add, le-div-iff-mul-le, div-lt-iff-lt-mul, dvd-of-mod-eq-zero, dvd-sub, div-mul-cancel}
+use native.Mathlib.Nat.{lt-of-not-le, suc-mul, mul-le-mul-right, div-mul-le-self, div-le-self, lt-div-mul-add, le-div-iff-mul-le, div-lt-iff-lt-mul, dvd-of-mod-eq-zero, dvd-sub, div-mul-cancel}
 use native.Mathlib.Omega.{arith}
 use borrow.Author.Tests.{eqb-true}
 use Rattle.rules.specs.declared.RamByte.{RamByte}
-use Rattle.rules.specs.Memory.{blockBytes, startOf, blockOf, isMultiple, blocksFor, perByte, mapBytesFor}
+use Rattle.rules.specs.Memory.{blockBytes, startOf, blockOf, isMultiple, blocksFor, perByte, mapBytesFor, mapByte}
 use Rattle.rules.specs.State.{ramByte}
 use Rattle.laws.proofs.Rounding.{up-holds, up-least, up-exact, up-le, up-pos}
 
@@ -58,8 +58,7 @@ pub start-lt : (bot : RamByte) {k j : ℕ} → k < j → startOf bot k + blockBy
 start-lt bot {k} h = omega (arith, start-suc bot k, start-mono bot h)
 
 pub start-from : (bot : RamByte) (k : ℕ) → bot .0 ≤ startOf bot k
-unfolding startOf
-start-from bot k = omega arith
+start-from bot k = omega (arith, start-zero bot, start-mono bot {k = 0} {j = k} (omega arith))
 
 -- an address lies in its block
 pub start-le : (bot a : RamByte) → bot .0 ≤ a .0 → startOf bot (blockOf bot a) ≤ a .0
@@ -104,6 +103,10 @@ block-lt bot a e m n g h = block-before bot a (blockOf bot e) g (omega (arith, a
 pub lt-block : (bot a e : RamByte) → blockOf bot a < blockOf bot e → a .0 < e .0
 lt-block bot a e h = lt-of-not-le (λ g. omega (arith, block-le bot e a g))
 
+pub block-small : (bot a : RamByte) → blockOf bot a ≤ a .0
+unfolding blockOf
+block-small bot a = omega (arith, div-le-self (a .0 - bot .0) blockBytes)
+
 -- ---- blocks for a size, and map bytes for a number of blocks
 
 pub blocksFor-holds : (size : ℕ) → size ≤ blocksFor size * blockBytes
@@ -141,3 +144,8 @@ mapBytesFor-le = up-le perByte-pos
 pub mapBytesFor-pos : {n : ℕ} → 0 < n → 0 < mapBytesFor n
 unfolding mapBytesFor
 mapBytesFor-pos = up-pos perByte-pos
+
+-- the places of n map bytes lie in the n bytes from bot on
+pub mapByte-lt : (bot : RamByte) {k : ℕ} (n : ℕ) → k < n * perByte → mapByte bot k < bot .0 + n
+unfolding mapByte
+mapByte-lt bot {k} n h = omega (arith, div-lt-iff-lt-mul {k = perByte} {x = k} {y = n} perByte-pos .1 h)

@@ -2,3 +2,4 @@
 pub mod Tests
 pub mod Rounding
 pub mod Blocks
+pub mod Good
