@@ -15,7 +15,7 @@ use Rattle.rules.specs.declared.State.{State}
 use Rattle.rules.specs.Memory.{ramBytes, blockBytes, startOf, isMultiple, blocks, heapBlock, safeBlock, mapBytes, mapByte, perByte, trusted}
 use Rattle.rules.specs.Code.{emptyRange, rangeOf, inRange, ordered, allApart, goodSite}
 use Rattle.rules.specs.State.{botBelowTop, mapBelowHeap, heapBelowSafe, safeBelowTop, topInRam, jtInFlash, goodConfig, domainGood, boundGood, safepointerGood, goodState, fresh, zeros}
-use Rattle.laws.proofs.Tests.{byTest, both, and-true, each, all-true}
+use Rattle.laws.proofs.Tests.{byTest, both, each}
 use Rattle.laws.proofs.Blocks.{start-lt, aligned, block-le, block-lt, block-small, mapBytesFor-holds, mapBytesFor-pos, mapByte-lt}
 
 -- sections 2 and 3
@@ -69,39 +69,19 @@ goodConfig-facts c h =
 pub goodConfig-true : (c : Config) → GoodConfig c → goodConfig c ≡ true
 unfolding goodConfig
 goodConfig-true c g =
-    all-true (isMultiple (c .bot)) (rows c) (
+    simp (
       g .botMultiple,
-      (
-        g .heapMultiple,
-        (
-          g .safeMultiple,
-          (
-            g .topMultiple,
-            (
-              lt-ltb (c .bot .0) (c .top .0) (g .bot<top),
-              (
-                le-leb (c .bot .0 + mapBytes c) (c .heap .0) (g .map≤heap),
-                (
-                  le-leb (c .heap .0) (c .safe .0) (g .heap≤safe),
-                  (
-                    le-leb (c .safe .0) (c .top .0) (g .safe≤top),
-                    (
-                      le-leb (c .top .0) ramBytes (g .top≤ram),
-                      (
-                        le-leb (c .jt .0) 64512 (g .jt≤last),
-                        (
-                          g .rangesOrdered,
-                          g .rangesApart,
-                        ),
-                      ),
-                    ),
-                  ),
-                ),
-              ),
-            ),
-          ),
-        ),
-      ),
+      g .heapMultiple,
+      g .safeMultiple,
+      g .topMultiple,
+      lt-ltb (c .bot .0) (c .top .0) (g .bot<top),
+      le-leb (c .bot .0 + mapBytes c) (c .heap .0) (g .map≤heap),
+      le-leb (c .heap .0) (c .safe .0) (g .heap≤safe),
+      le-leb (c .safe .0) (c .top .0) (g .safe≤top),
+      le-leb (c .top .0) ramBytes (g .top≤ram),
+      le-leb (c .jt .0) 64512 (g .jt≤last),
+      g .rangesOrdered,
+      g .rangesApart,
     )
 
 pub goodState-facts : (s : State) → goodState s ≡ true → GoodState s
@@ -122,15 +102,13 @@ goodState-facts s h =
 pub goodState-true : (s : State) → GoodState s → goodState s ≡ true
 unfolding goodState
 goodState-true s g =
-    all-true (goodConfig (s .config)) (domainGood s ∷ boundGood s ∷ safepointerGood s ∷ []) (
+    simp (
       goodConfig-true (s .config) (g .config),
-      (
-        le-leb (s .domain) trusted (g .domain≤trusted),
-        (
-          and-true (leb (s .config .top .0 - 1) (s .bound .0)) _ (le-leb _ _ (g .top≤bound)) (lt-ltb (s .bound .0) ramBytes (g .bound<ram)),
-          and-true (leb (s .config .safe .0) (s .safepointer .0)) _ (le-leb _ _ (g .safe≤safepointer)) (le-leb (s .safepointer .0) (s .config .top .0) (g .safepointer≤top)),
-        ),
-      ),
+      le-leb (s .domain) trusted (g .domain≤trusted),
+      le-leb (s .config .top .0 - 1) (s .bound .0) (g .top≤bound),
+      lt-ltb (s .bound .0) ramBytes (g .bound<ram),
+      le-leb (s .config .safe .0) (s .safepointer .0) (g .safe≤safepointer),
+      le-leb (s .safepointer .0) (s .config .top .0) (g .safepointer≤top),
     )
 
 -- section 6: "a state of zeros, which is not good"

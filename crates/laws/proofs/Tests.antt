@@ -25,7 +25,7 @@ pub or-false : (a b : Bool) → a ≡ false → b ≡ false → (a || b) ≡ fal
 or-false true b g h = absurd (true≢false g)
 or-false false b g h = h
 
--- ---- a chain of tests, t && u && ..: it holds if each of them does
+-- ---- a chain of tests, t && u && ..: where it holds, each of them does
 
 abbrev pub chain : Bool → List Bool → Bool
 chain t [] = t
@@ -46,7 +46,3 @@ each t (u ∷ us) h = split t u us (each (t && u) us h)
     split : (t u : Bool) (us : List Bool) → Each (t && u) us → (t ≡ true) × Each u us
     split true u us e = (refl, e)
     split false u us e = absurd (false≢true (first false us e))
-
-pub all-true : (t : Bool) (us : List Bool) → Each t us → chain t us ≡ true
-all-true t [] e = e
-all-true t (u ∷ us) e = all-true (t && u) us (rw (e .0) (e .1))
