@@ -4,7 +4,7 @@ use Prim.Native.Nat.{ℕ, zero, suc, _+_, _-_, _*_, _^_, _≤_, _<_}
 use mathlib.Core.Path.{_≡_, refl, sym, _∙_}
 use mathlib.Core.Logic.{_≢_}
 use mathlib.Core.List.{List, [], _∷_, _++_}
-use native.Mathlib.Nat.{mod-lt, add-zero, add-suc, suc-add}
+use native.Mathlib.Nat.{mod-lt, div-lt-iff-lt-mul, add-zero, add-suc, suc-add}
 use native.Mathlib.Decide.{ℕ-discrete}
 use native.Mathlib.Omega.{arith}
 use borrow.Author.Tests.{ltb-true, ltb-false}
@@ -12,8 +12,9 @@ use lib.ListN.{length, getD, length-set}
 use lib.Seq.{getD-set-same, getD-set-other, set-out}
 use lib.Dec.{ltb}
 use Rattle.rules.specs.declared.RamByte.{RamByte}
-use Rattle.rules.specs.Memory.{dividedUp, radix, perByte, mapBytesFor, mapByte, mapDigit, setDigit, codeOf, setCode, setCodes}
+use Rattle.rules.specs.Memory.{radix, perByte, mapBytesFor, mapByte, mapDigit, setDigit, codeOf, setCode, setCodes}
 use Rattle.laws.proofs.Tests.{byTest}
+use Rattle.laws.proofs.Rounding.{up-holds, up-le, up-pos}
 use Rattle.laws.proofs.Digits.{digit-lt, digit-same, digit-other, setDigit-lt, digits-ext}
 use Rattle.laws.proofs.AllBelow.{AllBelow, none, one}
 
@@ -38,8 +39,16 @@ mapDigit-lt k = mod-lt k perByte-pos
 
 -- n codes fit the bytes for n
 pub map-room : (n : ℕ) → n ≤ mapBytesFor n * perByte
-unfolding mapBytesFor dividedUp perByte
-map-room n = omega arith
+unfolding mapBytesFor
+map-room = up-holds perByte-pos
+
+pub mapBytesFor-le : (n : ℕ) → mapBytesFor n ≤ n
+unfolding mapBytesFor
+mapBytesFor-le = up-le perByte-pos
+
+pub mapBytesFor-pos : {n : ℕ} → 0 < n → 0 < mapBytesFor n
+unfolding mapBytesFor
+mapBytesFor-pos = up-pos perByte-pos
 
 module _ (bot : RamByte) where
   pub same-place : (k j : ℕ) → mapByte bot k ≡ mapByte bot j → mapDigit k ≡ mapDigit j → k ≡ j
@@ -55,8 +64,8 @@ module _ (bot : RamByte) where
   mapByte-mono k j h = omega arith
 
   pub mapByte-lt : (k m : ℕ) → k < m * perByte → mapByte bot k < bot .0 + m
-  unfolding mapByte perByte
-  mapByte-lt k m h = omega arith
+  unfolding mapByte
+  mapByte-lt k m h = omega (arith, div-lt-iff-lt-mul {k = perByte} {x = k} {y = m} perByte-pos .1 h)
 
   pub mapByte-lt-for : (k n : ℕ) → k < n → mapByte bot k < bot .0 + mapBytesFor n
   mapByte-lt-for k n h = mapByte-lt k (mapBytesFor n) (omega (arith, map-room n))
