@@ -1,0 +1,2 @@
+-- Facts that the proofs of several functions cite.
+pub mod Headers

@@ -1,0 +1,3 @@
+// Section 7: a script, from the bytes that are read to the text that is printed.
+mod header;
+mod incoming;
