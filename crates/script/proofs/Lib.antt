@@ -1,2 +1,3 @@
 -- Facts that the proofs of several functions cite.
 pub mod Headers
+pub mod Texts
