@@ -13,9 +13,9 @@ use lib.Seq.{sets, length-sets, drop-cons}
 use borrow.Author.Tests.{lt-ltb, le-ltb, ltb-true, ltb-false}
 use Rattle.rules.specs.Script.{space, newLine, digitText, lastDigits, decimal, lineOf, setUpText}
 use Rattle.rules.specs.declared.Outcome.{Outcome}
-use Rattle.rules.specs.Answers.{numberOf, valueOf}
+use Rattle.rules.specs.Answers.{Given, numberOf, valueOf}
 use Rattle.laws.proofs.Tests.{byTest}
-use Rattle.script.specs.Text.{Wrote, handed}
+use Rattle.script.specs.Text.{Wrote, handed, lineMost}
 
 -- ---- pieces
 
@@ -29,15 +29,24 @@ sets-append : (l : List ℕ) (at : ℕ) (xs ys : List ℕ) → sets l at (xs ++ 
 sets-append l at [] ys = rw add-zero
 sets-append l at (x ∷ xs) ys = sets-append (set l at x) (suc at) xs ys ∙ rw (add-suc, suc-add)
 
+-- nothing
+pub wrote-none : (l : List ℕ) (at : ℕ) → at ≤ length l → Wrote l l at [] at
+wrote-none l at h = record { place = omega arith; room = h; bytes = refl }
+
 -- a byte
-pub wrote-byte : (l : List ℕ) (at b : ℕ) → Wrote l (set l at b) at (b ∷ []) (at + 1)
-wrote-byte l at b = record { place = refl; bytes = refl }
+pub wrote-byte : (l : List ℕ) (at b : ℕ) → at < length l → Wrote l (set l at b) at (b ∷ []) (at + 1)
+wrote-byte l at b h = record { place = refl; room = omega arith; bytes = refl }
+
+-- the lent place stays as long as it was
+pub wrote-kept : {l m text : List ℕ} {at r : ℕ} → Wrote l m at text r → length m ≡ length l
+wrote-kept {l} {m} {text} {at} {r} w = ap length (w .bytes) ∙ length-sets l at text
 
 -- one text behind another
 pub wrote-then : {l m n : List ℕ} {at q r : ℕ} {xs ys : List ℕ} → Wrote l m at xs q → Wrote m n q ys r → Wrote l n at (xs ++ ys) r
 wrote-then {l} {m} {n} {at} {q} {r} {xs} {ys} v w =
     record {
       place = omega (arith, length-append xs ys, v .place, w .place);
+      room = omega (arith, w .room, wrote-kept v);
       bytes = w .bytes ∙ rw (v .bytes, v .place, sets-append);
     }
 
@@ -85,7 +94,7 @@ pub record Step (before after : List ℕ) (at r most : ℕ) : Type 0 where
 
 pub step : {l m text : List ℕ} {at r : ℕ} (most : ℕ) → length text ≤ most → Wrote l m at text r → Step l m at r most
 step {l} {m} {text} {at} {r} most h w =
-    record { near = omega (arith, w .place); kept = ap length (w .bytes) ∙ length-sets l at text }
+    record { near = omega (arith, w .place); kept = wrote-kept w }
 
 pub step-decimal : (n : ℕ) {l m : List ℕ} {at r : ℕ} → Wrote l m at (decimal n) r → Step l m at r 5
 step-decimal n w = step 5 (decimal-most n) w
@@ -106,14 +115,29 @@ pub wrote-line : {l m₁ m₂ m₃ m₄ m₅ m₆ : List ℕ} {at r₁ r₂ r₃
     → Wrote m₃ m₄ r₃ (space ∷ decimal (o .state .domain)) r₄
     → Wrote m₄ m₅ r₄ (space ∷ decimal (o .state .bound .0)) r₅
     → Wrote m₅ m₆ r₅ (space ∷ decimal (o .state .safepointer .0)) r₆
+    → r₆ < length m₆
     → Wrote l (set m₆ r₆ newLine) at (lineOf count (handed o)) (r₆ + 1)
 unfolding lineOf
-wrote-line count number value o e f w₁ w₂ w₃ w₄ w₅ w₆ =
-    rw (← e, ← f) (wrote-then (wrote-then (wrote-then (wrote-then (wrote-then (wrote-then w₁ w₂) w₃) w₄) w₅) w₆) (wrote-byte _ _ _))
+wrote-line count number value o e f w₁ w₂ w₃ w₄ w₅ w₆ h =
+    rw (← e, ← f) (wrote-then (wrote-then (wrote-then (wrote-then (wrote-then (wrote-then w₁ w₂) w₃) w₄) w₅) w₆) (wrote-byte _ _ _ h))
 
 -- the lines of set-up: a constant text and a number
 pub wrote-set-up : {l m₁ m₂ : List ℕ} {r₁ r₂ : ℕ} (number : ℕ) (o : Outcome) → number ≡ numberOf (o .answer)
     → Wrote l m₁ 0 (72 ∷ 77 ∷ 84 ∷ space ∷ 49 ∷ newLine ∷ 115 ∷ 101 ∷ 116 ∷ 117 ∷ 112 ∷ space ∷ []) r₁
     → Wrote m₁ m₂ r₁ (decimal number) r₂
+    → r₂ < length m₂
     → Wrote l (set m₂ r₂ newLine) 0 (setUpText (handed o)) (r₂ + 1)
-wrote-set-up number o e w₁ w₂ = rw (← e) (wrote-then (wrote-then w₁ w₂) (wrote-byte _ _ _))
+wrote-set-up number o e w₁ w₂ h = rw (← e) (wrote-then (wrote-then w₁ w₂) (wrote-byte _ _ _ h))
+
+pub line-most : (count : ℕ) (g : Given) → length (lineOf count g) ≤ lineMost
+unfolding lineOf
+line-most count g =
+    simp length-append
+    (omega
+    (arith,
+      decimal-most count,
+      decimal-most (numberOf (g .answer)),
+      decimal-most (valueOf (g .answer)),
+      decimal-most (g .state .domain),
+      decimal-most (g .state .bound .0),
+      decimal-most (g .state .safepointer .0)))

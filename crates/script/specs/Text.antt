@@ -1,5 +1,5 @@
 -- Text written to a lent place, and the most that it can be.
-use Prim.Native.Nat.{ℕ, _+_}
+use Prim.Native.Nat.{ℕ, _+_, _≤_}
 use mathlib.Core.Path.{_≡_}
 use mathlib.Core.List.{List, []}
 use lib.ListN.{length}
@@ -7,9 +7,10 @@ use lib.Seq.{sets}
 use Rattle.rules.specs.declared.Outcome.{Outcome}
 use Rattle.rules.specs.Answers.{Given}
 
--- text was written from place at on and nothing else, and r is the place behind it
+-- text was written from place at on, whole, and nothing else was; r is the place behind it
 pub record Wrote (before after : List ℕ) (at : ℕ) (text : List ℕ) (r : ℕ) : Type 0 where
   pub place : r ≡ at + length text
+  pub room : r ≤ length before
   pub bytes : after ≡ sets before at text
 
 -- what an operation handed back beside RAM, of which no text speaks

@@ -66,7 +66,7 @@ put-decimal-returns : (t : ℕ) → put-decimal-lts.Need-returns (
 ) (put-decimal-at t) put-decimal.Post
 put-decimal-returns t c =
     let n = c .before .before .args .n in
-    rw (decimal-one n (c .if1 .taken)) (wrote-byte _ _ _)
+    rw (decimal-one n (c .if1 .taken)) (wrote-byte _ _ _ (put-decimal-slice-write-out t c))
 
 -- src/text.rt:37:9
 put-decimal-put-decimal-requires : (t : ℕ) → put-decimal-lts.Need-put-decimal-requires (
@@ -121,7 +121,7 @@ put-decimal-returns-2 : (t : ℕ) → put-decimal-lts.Need-returns-2 (
 ) (put-decimal-at t) put-decimal.Post
 put-decimal-returns-2 t c =
     let n = c .before .before .before .before .before .before .args .n in
-    rw (decimal-more n (c .before .before .before .before .if1 .left) (omega arith)) (wrote-then (c .before .before .put-decimal .ensures) (wrote-byte _ _ _))
+    rw (decimal-more n (c .before .before .before .before .if1 .left) (omega arith)) (wrote-then (c .before .before .put-decimal .ensures) (wrote-byte _ _ _ (put-decimal-slice-write-out-2 t c)))
 
 pub +put-decimal-spec : {M : Type 1} → statement M
 +put-decimal-spec = close μ-put-decimal λ t. put-decimal-lts.spec (

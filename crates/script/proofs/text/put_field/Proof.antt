@@ -27,7 +27,7 @@ same-length c = c .before .before .put-decimal .kept .0 ∙ simp length-set
 
 -- src/text.rt:42:1
 returns : tie.Need-returns
-returns c = wrote-then (wrote-byte _ _ _) (c .before .before .put-decimal .ensures)
+returns c = wrote-then (wrote-byte _ _ _ (omega arith)) (c .before .before .put-decimal .ensures)
 
 pub put-field-spec : {M : Type 1} → statement M
 put-field-spec =

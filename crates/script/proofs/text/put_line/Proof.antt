@@ -111,6 +111,7 @@ returns c =
     (c .before .before .before .before .before .before .before .before .before .before .put-field3 .ensures)
     (c .before .before .before .before .before .before .put-field4 .ensures)
     (c .before .before .put-field5 .ensures)
+    (slice-write-out c)
 
 pub put-line-spec : {M : Type 1} → statement M
 put-line-spec =

@@ -51,6 +51,7 @@ same-length c = simp length-set (room c .kept)
 -- src/text.rt:68:1
 returns : tie.Need-returns
 returns c = wrote-set-up _ (c .before .before .before .before .before .before .before .before .before .before .before .args .o) (c .before .before .before .number-of .ensures) (c .before .before .before .before .before .before .before .put-text .ensures) (c .before .before .put-decimal .ensures)
+    (slice-write-out c)
 
 pub put-set-up-spec : {M : Type 1} → statement M
 put-set-up-spec =

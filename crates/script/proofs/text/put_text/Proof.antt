@@ -65,6 +65,7 @@ returns c =
     let l = c .before .loop in
     record {
       place = omega arith;
+      room = omega arith;
       bytes = sym (l .inv .0 ∙ ap (sets (l .out) (l .at)) (drop-of-length-le (c .before .before .args .text .now) (c .loop-test .left)));
     }
 
