@@ -93,9 +93,9 @@ module _ (input table : List ℕ) where
   enough (suc f) (suc g) s ram at count p q =
       same-behind at (behind f s ram count) (behind g s ram count)
       (λ op next e.
-        let (h, l) = whole-within input at op next e in
-        let o = operationOf s ram table op in
-        ap (λ (rest : List ℕ). lineOf count o ++ rest) (enough f g (o .state) (o .ram) next (count + 1) (omega arith) (omega arith)))
+      let (h, l) = whole-within input at op next e in
+      let o = operationOf s ram table op in
+      ap (λ (rest : List ℕ). lineOf count o ++ rest) (enough f g (o .state) (o .ram) next (count + 1) (omega arith) (omega arith)))
       (operationAt input at) refl
 
   module _ (s : State) (ram : List ℕ) (at count : ℕ) where
@@ -116,7 +116,7 @@ module _ (input table : List ℕ) where
 
     pub lines-whole : (op : Operation) (next : ℕ) → operationAt input at ≡ Whole op next
         → let g = operationOf s ram table op in
-          linesAt input table s ram at count ≡ lineOf count g ++ linesAt input table (g .state) (g .ram) next (count + 1)
+        linesAt input table s ram at count ≡ lineOf count g ++ linesAt input table (g .state) (g .ram) next (count + 1)
     unfolding linesAt
     lines-whole op next e =
         let (h, l) = whole-within input at op next e in
@@ -124,7 +124,7 @@ module _ (input table : List ℕ) where
         some (length input - at) (omega arith)
         ∙ ap (λ (r : Read). onRead r (behind (length input - at - 1) s ram count)) e
         ∙ ap (λ (rest : List ℕ). lineOf count g ++ rest)
-          (enough (length input - at - 1) (length input - next) (g .state) (g .ram) next (count + 1) (omega arith) (omega arith))
+        (enough (length input - at - 1) (length input - next) (g .state) (g .ram) next (count + 1) (omega arith) (omega arith))
 
 -- what an operation handed back makes the line that its rule gives
 pub line-given : (count : ℕ) (o : Outcome) (ram : List ℕ) (g : Given) → Gives o ram g → lineOf count (handed o) ≡ lineOf count g

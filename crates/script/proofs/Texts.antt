@@ -15,7 +15,7 @@ use Rattle.rules.specs.Script.{space, newLine, digitText, lastDigits, decimal, 
 use Rattle.rules.specs.declared.Outcome.{Outcome}
 use Rattle.rules.specs.Answers.{Given, numberOf, valueOf}
 use Rattle.laws.proofs.Tests.{byTest}
-use Rattle.script.specs.Text.{Wrote, handed, lineMost}
+use Rattle.script.specs.Text.{Wrote, handed, lineMost, setUpMost}
 
 -- ---- pieces
 
@@ -133,11 +133,15 @@ pub line-most : (count : ℕ) (g : Given) → length (lineOf count g) ≤ lineMo
 unfolding lineOf
 line-most count g =
     simp length-append
-    (omega
-    (arith,
+    (omega (
+      arith,
       decimal-most count,
       decimal-most (numberOf (g .answer)),
       decimal-most (valueOf (g .answer)),
       decimal-most (g .state .domain),
       decimal-most (g .state .bound .0),
-      decimal-most (g .state .safepointer .0)))
+      decimal-most (g .state .safepointer .0),
+    ))
+
+pub set-up-most : (g : Given) → length (setUpText g) ≤ setUpMost
+set-up-most g = simp length-append (omega (arith, decimal-most (numberOf (g .answer))))

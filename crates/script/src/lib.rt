@@ -7,6 +7,7 @@ ghost use Rattle.rules.specs.Answers.{Gives};
 ghost use Rattle.rules.specs.Script.{mostBytes, pairsPlace, operationsPlace, operationOf};
 ghost use Rattle.script.specs.Text.{Wrote, lineMost};
 ghost use Rattle.script.specs.Run.{linesAt, written};
+
 mod header;
 mod incoming;
 mod numbers;
@@ -29,7 +30,14 @@ fn carry_out(state: State, ram: &mut [u8], table: &[u16], op: Operation) -> Outc
 {
     match op {
         Operation::Store(address, byte) => stub::store(state, ram, address, byte),
-        Operation::Call(target, site, pointer) => stub::call(state, ram, table, target, site, pointer),
+        Operation::Call(target, site, pointer) => stub::call(
+            state,
+            ram,
+            table,
+            target,
+            site,
+            pointer,
+        ),
         Operation::Return => stub::ret(state, ram),
         Operation::Malloc(size) => stub::malloc(state, ram, size),
         Operation::Free(address) => stub::free(state, ram, address),
@@ -38,7 +46,14 @@ fn carry_out(state: State, ram: &mut [u8], table: &[u16], op: Operation) -> Outc
 }
 
 // The lines of the operations, from the first to the end or to one that is unknown or cut.
-fn put_lines(input: &[u8], ram: &mut [u8], table: &[u16], out: &mut [u8], start: usize, first: State) -> usize
+fn put_lines(
+    input: &[u8],
+    ram: &mut [u8],
+    table: &[u16],
+    out: &mut [u8],
+    start: usize,
+    first: State,
+) -> usize
     requires { ⌜ (pairsPlace ≤ length (now input)) × (operationsPlace (now input) ≤ length (now input)) × (length (now input) ≤ mostBytes) × (start + lineMost * (length (now input) - pairsPlace) ≤ length (now out)) ⌝ }
     ensures { λ r. ⌜ Wrote (now (out .entry)) (now (out .exit)) start (linesAt (now (input .entry)) (now (table .entry)) first (now (ram .entry)) (operationsPlace (now (input .entry))) 1) r ⌝ }
 {

@@ -24,8 +24,8 @@ use Rattle.script.proofs.text.put_text.Reads as put-text-reads
 abbrev Inv-loop : tie.InvT-loop
 Inv-loop input ram₀ table out₀ start state₀ place₀ count₀ at₀ t15 ram out state place count at =
     ((after : List ℕ) (r : ℕ)
-      → Wrote out after at (linesAt input table state ram place count) r
-      → Wrote out₀ after at₀ (linesAt input table state₀ ram₀ place₀ count₀) r)
+    → Wrote out after at (linesAt input table state ram place count) r
+    → Wrote out₀ after at₀ (linesAt input table state₀ ram₀ place₀ count₀) r)
     × (place ≤ length input)
     × (count + (length input - place) ≤ mostBytes - pairsPlace + 1)
     × (at + lineMost * (length input - place) ≤ length out)
@@ -69,7 +69,7 @@ returns c =
     let input = c .before .before .before .before .before .before .before .before .before .args .input .now in
     let at-end : operationAt input (l .place) ≡ End = sym (c .before .before .operation-at .ensures) ∙ c .enum-told .given .1 in
     let w : Wrote (l .out) (l .out) (l .at) (linesAt input (c .before .before .before .before .before .before .before .before .before .args .table .now) (l .state) (l .ram) (l .place) (l .count)) (l .at) =
-        rw (lines-end input (c .before .before .before .before .before .before .before .before .before .args .table .now) (l .state) (l .ram) (l .place) (l .count) at-end) (wrote-none (l .out) (l .at) (omega arith)) in
+    rw (lines-end input (c .before .before .before .before .before .before .before .before .before .args .table .now) (l .state) (l .ram) (l .place) (l .count) at-end) (wrote-none (l .out) (l .at) (omega arith)) in
     rw (← c .before .before .before .before .operations-place .ensures) (l .inv .0 (l .out) (l .at) w)
 
 -- src/lib.rt:53:48
@@ -151,13 +151,14 @@ loop-again c =
     let l = c .before .before .before .before .before .before .before .before .before .before .before .before .before .loop in
     let here = read-within c in
     let w = c .before .before .before .put-line .ensures in
-    let s = step lineMost (line-most _ _) w in
-    ((λ after r v. l .inv .0 after r (turn _ _ (l .state) (l .ram) (l .place) (l .count) _ _ (whole c) _ _ (c .before .before .before .before .before .before .before .carry-out .ensures) w v)),
+    let s = step lineMost (line-most _ _) w in (
+      (λ after r v. l .inv .0 after r (turn _ _ (l .state) (l .ram) (l .place) (l .count) _ _ (whole c) _ _ (c .before .before .before .before .before .before .before .carry-out .ensures) w v)),
       here .1,
       omega (arith, here .0, here .1, l .inv .2),
       omega (arith, here .0, here .1, l .inv .3, s .near, s .kept),
       s .kept ∙ l .inv .4,
-      c .before .before .before .before .before .before .before .carry-out .kept .1 .0 ∙ l .inv .5)
+      c .before .before .before .before .before .before .before .carry-out .kept .1 .0 ∙ l .inv .5,
+    )
 
 pub put-lines-spec : {M : Type 1} → statement M
 put-lines-spec =

@@ -1,3 +1,13 @@
+use mathlib.Core.Path.{_≡_, refl, sym, _∙_}
+use mathlib.Core.Bool.{true, false}
+use native.Mathlib.Omega.{arith}
+use lib.ListN.{length}
+use borrow.Author.Tests.{not-true, not-false}
+use Rattle.rules.specs.Script.{headerGood}
+use Rattle.script.specs.Text.{handed, setUpMost}
+use Rattle.script.proofs.Headers.{header-facts}
+use Rattle.script.proofs.Texts.{wrote-then, step, set-up-most}
+use Rattle.script.proofs.Runs.{wrote-first, written-none, written-long, written-bad, written-good, run-refused, run-done}
 use borrow.Author.Needs.{needs}
 use Rattle.script.proofs.run.Statement.{statement}
 use Rattle.script.proofs.run.Tie as tie
@@ -14,7 +24,7 @@ use Rattle.script.proofs.text.put_text.Reads as put-text-reads
 
 -- src/lib.rt:71:9
 returns : tie.Need-returns
-returns c = ?
+returns c = rw (written-none (c .before .before .before .args .input .now) (length (c .before .before .before .args .out .now)) (c .if1 .taken)) (refl, refl)
 
 -- src/lib.rt:74:39
 slice-aggregate-put-text : tie.Need-slice-aggregate-put-text
@@ -30,7 +40,10 @@ same-length c = search needs
 
 -- src/lib.rt:74:9
 returns-2 : tie.Need-returns-2
-returns-2 c = ?
+returns-2 c =
+    wrote-first
+    (written-long (c .before .before .before .before .before .before .before .before .before .args .input .now) (length (c .before .before .before .before .before .before .before .before .before .args .out .now)) (c .before .before .before .before .before .before .if1 .left) (c .before .before .before .before .before .if2 .taken))
+    (c .before .before .put-text .ensures)
 
 -- src/lib.rt:76:9
 header-good-requires : tie.Need-header-good-requires
@@ -50,7 +63,10 @@ same-length-2 c = search needs
 
 -- src/lib.rt:77:9
 returns-3 : tie.Need-returns-3
-returns-3 c = ?
+returns-3 c =
+    wrote-first
+    (written-bad (c .before .before .before .before .before .before .before .before .before .before .before .args .input .now) (length (c .before .before .before .before .before .before .before .before .before .before .before .args .out .now)) (c .before .before .before .before .before .before .before .before .if1 .left) (c .before .before .before .before .before .before .before .if2 .left) (sym (c .before .before .before .before .before .before .header-good .ensures) ∙ not-true _ (c .before .before .before .before .before .if3 .taken)))
+    (c .before .before .put-text2 .ensures)
 
 -- src/lib.rt:80:31
 slice-aggregate-fill-table : tie.Need-slice-aggregate-fill-table
@@ -58,11 +74,11 @@ slice-aggregate-fill-table c = search needs
 
 -- src/lib.rt:80:5
 fill-table-requires : tie.Need-fill-table-requires
-fill-table-requires c κs = ?
+fill-table-requires c κs = (sym (c .before .before .header-good .ensures) ∙ not-false _ (c .before .if3 .left), refl)
 
 -- src/lib.rt:82:26
 config-at-requires : tie.Need-config-at-requires
-config-at-requires c κs = ?
+config-at-requires c κs = header-facts (c .before .before .before .before .before .before .before .before .before .args .input .now) (sym (c .before .before .before .before .header-good .ensures) ∙ not-false _ (c .before .before .before .if3 .left)) .0
 
 -- src/lib.rt:82:52
 slice-aggregate-set-up : tie.Need-slice-aggregate-set-up
@@ -86,7 +102,11 @@ same-length-3 c = search needs
 
 -- src/lib.rt:86:9
 returns-4 : tie.Need-returns-4
-returns-4 c = ?
+returns-4 c =
+    wrote-first
+    (written-good (c .before .before .before .before .before .before .before .before .before .before .before .before .before .before .before .before .before .before .before .args .input .now) (length (c .before .before .before .before .before .before .before .before .before .before .before .before .before .before .before .before .before .before .before .args .out .now)) (c .before .before .before .before .before .before .before .before .before .before .before .before .before .before .before .before .if1 .left) (c .before .before .before .before .before .before .before .before .before .before .before .before .before .before .before .if2 .left) (sym (c .before .before .before .before .before .before .before .before .before .before .before .before .before .before .header-good .ensures) ∙ not-false _ (c .before .before .before .before .before .before .before .before .before .before .before .before .before .if3 .left))
+    ∙ run-refused (c .before .before .before .before .before .before .before .before .before .before .before .before .before .before .before .before .before .before .before .args .input .now) (c .before .before .before .before .before .before .before .set-up .result) (c .before .before .before .before .before .before .before .before .before .config-at .ensures) (c .before .before .before .before .before .before .before .set-up .ensures) (λ e. c .if4 .taken (c .before .number-of .ensures ∙ e)))
+    (c .before .before .before .before .put-set-up .ensures)
 
 -- src/lib.rt:89:22
 slice-aggregate-put-lines : tie.Need-slice-aggregate-put-lines
@@ -98,7 +118,10 @@ slice-aggregate-put-lines-2 c = search needs
 
 -- src/lib.rt:89:5
 put-lines-requires : tie.Need-put-lines-requires
-put-lines-requires c κs = ?
+put-lines-requires c κs =
+    let (h, l, g) = header-facts (c .before .before .before .before .before .before .before .before .before .before .before .before .before .before .before .before .before .before .before .before .before .before .before .args .input .now) (sym (c .before .before .before .before .before .before .before .before .before .before .before .before .before .before .before .before .before .before .header-good .ensures) ∙ not-false _ (c .before .before .before .before .before .before .before .before .before .before .before .before .before .before .before .before .before .if3 .left)) in
+    let s = step setUpMost (set-up-most (handed (c .before .before .before .before .before .before .before .before .before .before .before .set-up .result))) (c .before .before .before .before .before .before .before .before .put-set-up .ensures) in
+    (h, l, c .before .before .before .before .before .before .before .before .before .before .before .before .before .before .before .before .before .before .before .if2 .left, omega (arith, h, c .before .before .before .before .before .before .before .before .before .before .before .before .before .before .before .before .before .before .before .if2 .left, c .before .before .before .before .before .before .before .before .before .before .before .before .before .before .before .before .before .before .before .before .if1 .left, s .near, s .kept))
 
 -- src/lib.rt:67:1
 same-length-4 : tie.Need-same-length-4
@@ -106,7 +129,11 @@ same-length-4 c = search needs
 
 -- src/lib.rt:67:1
 returns-5 : tie.Need-returns-5
-returns-5 c = ?
+returns-5 c =
+    wrote-first
+    (written-good (c .before .before .before .before .before .before .before .before .before .before .before .before .before .before .before .before .before .before .before .before .before .before .before .before .before .before .before .args .input .now) (length (c .before .before .before .before .before .before .before .before .before .before .before .before .before .before .before .before .before .before .before .before .before .before .before .before .before .before .before .args .out .now)) (c .before .before .before .before .before .before .before .before .before .before .before .before .before .before .before .before .before .before .before .before .before .before .before .before .if1 .left) (c .before .before .before .before .before .before .before .before .before .before .before .before .before .before .before .before .before .before .before .before .before .before .before .if2 .left) (sym (c .before .before .before .before .before .before .before .before .before .before .before .before .before .before .before .before .before .before .before .before .before .before .header-good .ensures) ∙ not-false _ (c .before .before .before .before .before .before .before .before .before .before .before .before .before .before .before .before .before .before .before .before .before .if3 .left))
+    ∙ run-done (c .before .before .before .before .before .before .before .before .before .before .before .before .before .before .before .before .before .before .before .before .before .before .before .before .before .before .before .args .input .now) (c .before .before .before .before .before .before .before .before .before .before .before .before .before .before .before .set-up .result) (c .before .before .before .before .before .before .before .before .before .before .before .before .before .before .before .before .before .config-at .ensures) (c .before .before .before .before .before .before .before .before .before .before .before .before .before .before .before .set-up .ensures) (sym (c .before .before .before .before .before .before .before .before .before .number-of .ensures) ∙ c .before .before .before .before .before .before .before .before .if4 .left) _ (c .before .before .before .before .before .before .before .before .before .before .before .before .before .before .before .before .before .before .before .fill-table .ensures))
+    (wrote-then (c .before .before .before .before .before .before .before .before .before .before .before .before .put-set-up .ensures) (c .before .before .before .put-lines .ensures))
 
 pub run-spec : {M : Type 1} → statement M
 run-spec =
