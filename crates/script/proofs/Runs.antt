@@ -4,11 +4,11 @@ use Prim.Native.Nat.{ℕ, _+_, _≤_, _<_}
 use mathlib.Core.Path.{_≡_, ap, subst, _∙_}
 use mathlib.Core.Logic.{_≢_}
 use mathlib.Core.Bool.{Bool, true, false, cond}
-use mathlib.Core.List.{List, [], _∷_, _++_, append-nil}
+use mathlib.Core.List.{List, [], _++_, append-nil}
 use lib.Dec.{eqb}
 use native.Mathlib.Omega.{arith}
 use lib.ListN.{length, drop, replicate}
-use lib.Seq.{sets, sets-eq}
+use lib.Seq.{sets-eq}
 use borrow.Author.Tests.{lt-ltb, le-ltb, eq-eqb, ne-eqb}
 use Rattle.rules.specs.declared.Config.{Config}
 use Rattle.rules.specs.declared.Outcome.{Outcome}
@@ -18,7 +18,6 @@ use Rattle.rules.specs.SetUp.{setUpOf}
 use Rattle.rules.specs.Script.{mostBytes, configAt, tableAt, headerGood, operationsPlace, longText, badText, setUpText, runText, scriptText}
 use Rattle.script.specs.Text.{Wrote, handed}
 use Rattle.script.specs.Run.{linesAt, textMost, written}
-use Rattle.script.proofs.Texts.{wrote-then}
 
 -- a text written from the start of a lent place is what stands there, and behind it stands what stood there
 pub wrote-first : {l m text wanted : List ℕ} {r : ℕ} → wanted ≡ text → Wrote l m 0 text r → (r ≡ length wanted) × (m ≡ wanted ++ drop r l)

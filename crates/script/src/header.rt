@@ -1,12 +1,11 @@
 // The header of a script: its mark and version, the configuration, and the pairs of the jump table.
 ghost use mathlib.Core.Path.{_≡_};
 ghost use mathlib.Core.Bool.{true};
-ghost use Prim.Native.Nat.{ℕ, _+_, _*_, _≤_, _<_};
+ghost use Prim.Native.Nat.{_+_, _*_, _≤_, _<_};
 ghost use lib.ListN.{length, replicate};
-ghost use Rattle.rules.specs.Code.{tableWords, flashWord};
-ghost use Rattle.rules.specs.Return.{wordAt};
+ghost use Rattle.rules.specs.Code.{tableWords};
 ghost use Rattle.script.specs.Range.{rangeAt};
-ghost use Rattle.rules.specs.Script.{markGood, pairsPlace, configAt, countAt, entriesAt, tableAt, indicesGood, headerGood, operationsPlace};
+ghost use Rattle.rules.specs.Script.{markGood, pairsPlace, configAt, countAt, tableAt, indicesGood, headerGood, operationsPlace};
 use crate::incoming::flash_word_at;
 use crate::incoming::ram_byte_at;
 use crate::incoming::word_at;

@@ -1,7 +1,7 @@
 // Where numbers come in from outside: sixteen bits of a script, low byte first, as a number or as one of the kinds of address. No
 // other file of this crate makes an address.
 ghost use mathlib.Core.Path.{_≡_};
-ghost use Prim.Native.Nat.{ℕ, _+_, _<_};
+ghost use Prim.Native.Nat.{_+_, _<_};
 ghost use lib.ListN.{length};
 ghost use Rattle.rules.specs.Code.{flashWord};
 ghost use Rattle.rules.specs.State.{ramByte};

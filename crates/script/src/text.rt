@@ -1,7 +1,6 @@
 // Text, written to a lent place: a constant text, a number in decimal, the line of an operation, the lines of set-up.
-ghost use mathlib.Core.Path.{_≡_};
 ghost use mathlib.Core.List.{_∷_};
-ghost use Prim.Native.Nat.{ℕ, _+_, _≤_, _<_};
+ghost use Prim.Native.Nat.{_+_, _≤_, _<_};
 ghost use lib.ListN.{length};
 ghost use Rattle.rules.specs.Script.{space, decimal, lineOf, setUpText};
 ghost use Rattle.script.specs.Text.{Wrote, lineMost, setUpMost, handed};

@@ -1,25 +1,18 @@
-use Rattle.rules.specs.declared.Read.the-variants.{Whole, Cut, End}
-use Rattle.rules.specs.Script.{operationAt}
+-- `script::put_lines` meets its contract. The loop: whoever writes the lines that are left has written them all. The measure is the bytes left. Assumes nothing.
 use Prim.Native.Nat.{ℕ, _+_, _*_, _-_, _≤_, _<_}
-use mathlib.Core.Path.{_≡_, refl, sym, ap, _∙_}
+use mathlib.Core.Path.{_≡_, refl, sym, _∙_}
 use mathlib.Core.List.{List}
 use native.Mathlib.Omega.{arith}
 use lib.ListN.{length}
 use borrow.Author.Needs.{needs}
-use Rattle.rules.specs.Script.{mostBytes, pairsPlace, operationsPlace}
+use Rattle.rules.specs.declared.Read.the-variants.{Whole, Cut, End}
+use Rattle.rules.specs.Script.{operationAt, mostBytes, pairsPlace}
 use Rattle.script.specs.Text.{Wrote, lineMost}
 use Rattle.script.specs.Run.{linesAt}
 use Rattle.script.proofs.Lines.{whole-within, cut-within, lines-end, lines-cut, turn}
 use Rattle.script.proofs.Texts.{wrote-none, step, line-most}
 use Rattle.script.proofs.put_lines.Statement.{statement}
 use Rattle.script.proofs.put_lines.Tie as tie
-use Rattle.script.proofs.put_lines.Reads as reads
-use Rattle.script.proofs.put_lines.Lts as lts
-use Rattle.script.proofs.carry_out.Reads as carry-out-reads
-use Rattle.script.proofs.header.operations_place.Reads as operations-place-reads
-use Rattle.script.proofs.operation.operation_at.Reads as operation-at-reads
-use Rattle.script.proofs.text.put_line.Reads as put-line-reads
-use Rattle.script.proofs.text.put_text.Reads as put-text-reads
 
 abbrev Inv-loop : tie.InvT-loop
 Inv-loop input ram₀ table out₀ start state₀ place₀ count₀ at₀ t15 ram out state place count at =
@@ -35,34 +28,27 @@ Inv-loop input ram₀ table out₀ start state₀ place₀ count₀ at₀ t15 ra
 abbrev μ-loop : tie.MeasureT-loop
 μ-loop input ram₀ table out₀ start state₀ place₀ count₀ at₀ t15 ram out state place count at = length input - place
 
--- src/lib.rt:46:9
 operations-place-requires : tie.Need-operations-place-requires Inv-loop μ-loop
 operations-place-requires c κs = search needs
 
--- src/lib.rt:49:5
 loop-holds : tie.Need-loop-holds Inv-loop μ-loop
 loop-holds c =
     let p = c .before .before .before .before .before .pre in
     let e = c .operations-place .ensures in
     ((λ after r w. w), omega (arith, e), omega (arith, e), omega (arith, e), refl, refl)
 
--- src/lib.rt:50:13
 operation-at-requires : tie.Need-operation-at-requires Inv-loop μ-loop
 operation-at-requires c κs = search needs
 
--- src/lib.rt:52:26
 enum-told : tie.Need-enum-told Inv-loop μ-loop
 enum-told c = search needs
 
--- src/lib.rt:52:26
 same-length : tie.Need-same-length Inv-loop μ-loop
 same-length c = search needs
 
--- src/lib.rt:52:26
 same-length-2 : tie.Need-same-length-2 Inv-loop μ-loop
 same-length-2 c = search needs
 
--- src/lib.rt:52:26
 returns : tie.Need-returns Inv-loop μ-loop
 returns c =
     let l = c .before .before .before .loop in
@@ -72,30 +58,24 @@ returns c =
     rw (lines-end input (c .before .before .before .before .before .before .before .before .before .args .table .now) (l .state) (l .ram) (l .place) (l .count) at-end) (wrote-none (l .out) (l .at) (omega arith)) in
     rw (← c .before .before .before .before .operations-place .ensures) (l .inv .0 (l .out) (l .at) w)
 
--- src/lib.rt:53:48
 enum-told-2 : tie.Need-enum-told-2 Inv-loop μ-loop
 enum-told-2 c = search needs
 
--- src/lib.rt:53:57
 slice-aggregate-put-text : tie.Need-slice-aggregate-put-text Inv-loop μ-loop
 slice-aggregate-put-text c = search needs
 
--- src/lib.rt:53:26
 put-text-requires : tie.Need-put-text-requires Inv-loop μ-loop
 put-text-requires c κs =
     let l = c .before .before .before .before .before .loop in
     let here = cut-within (c .before .before .before .before .before .before .before .before .before .before .before .args .input .now) (l .place) (sym (c .before .before .before .before .operation-at .ensures) ∙ c .before .before .enum-told2 .given .1) in
     omega (arith, here)
 
--- src/lib.rt:53:26
 same-length-3 : tie.Need-same-length-3 Inv-loop μ-loop
 same-length-3 c = c .before .before .before .before .before .before .before .before .loop .inv .5
 
--- src/lib.rt:53:26
 same-length-4 : tie.Need-same-length-4 Inv-loop μ-loop
 same-length-4 c = c .before .before .put-text .kept .0 ∙ c .before .before .before .before .before .before .before .before .loop .inv .4
 
--- src/lib.rt:53:26
 returns-2 : tie.Need-returns-2 Inv-loop μ-loop
 returns-2 c =
     let l = c .before .before .before .before .before .before .before .before .loop in
@@ -105,15 +85,12 @@ returns-2 c =
     rw (← c .before .before .before .before .before .before .before .before .before .operations-place .ensures)
     (l .inv .0 _ _ (rw (lines-cut input table (l .state) (l .ram) (l .place) (l .count) cut) (c .before .before .put-text .ensures)))
 
--- src/lib.rt:54:25
 enum-known-read : tie.Need-enum-known-read Inv-loop μ-loop
 enum-known-read c = search needs
 
--- src/lib.rt:55:21
 carry-out-requires : tie.Need-carry-out-requires Inv-loop μ-loop
 carry-out-requires c κs = search needs
 
--- src/lib.rt:56:17
 put-line-requires : tie.Need-put-line-requires Inv-loop μ-loop
 put-line-requires c κs =
     let l = c .before .before .before .before .before .before .before .before .before .loop in
@@ -132,20 +109,17 @@ read-within :
     → (c .before .before .before .before .before .before .before .before .before .before .before .before .before .loop .place < c .before .before .before .before .before .before .before .before .before .before .read .given .0 .1 .0) × (c .before .before .before .before .before .before .before .before .before .before .read .given .0 .1 .0 ≤ length (c .before .before .before .before .before .before .before .before .before .before .before .before .before .before .before .before .before .before .before .args .input .now))
 read-within c = whole-within (c .before .before .before .before .before .before .before .before .before .before .before .before .before .before .before .before .before .before .before .args .input .now) (c .before .before .before .before .before .before .before .before .before .before .before .before .before .loop .place) _ _ (whole c)
 
--- src/lib.rt:59:17
 add-count : tie.Need-add-count Inv-loop μ-loop
 add-count c =
     let l = c .before .before .before .before .before .before .before .before .before .before .before .before .before .loop in
     let here = read-within c in
     omega (arith, here .0, here .1, l .inv .2)
 
--- src/lib.rt:49:5
 loop-less : tie.Need-loop-less Inv-loop μ-loop
 loop-less c =
     let here = read-within c in
     omega (arith, here .0, here .1)
 
--- src/lib.rt:49:5
 loop-again : tie.Need-loop-again Inv-loop μ-loop
 loop-again c =
     let l = c .before .before .before .before .before .before .before .before .before .before .before .before .before .loop in

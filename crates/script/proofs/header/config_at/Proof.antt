@@ -1,67 +1,49 @@
-use Rattle.script.proofs.Headers.{config-from}
+-- `script::header::config_at` meets its contract. Assumes nothing.
 use native.Mathlib.Omega.{arith}
 use borrow.Author.Needs.{needs}
+use Rattle.script.proofs.Headers.{config-from}
 use Rattle.script.proofs.header.config_at.Statement.{statement}
 use Rattle.script.proofs.header.config_at.Tie as tie
-use Rattle.script.proofs.header.config_at.Reads as reads
-use Rattle.script.proofs.header.config_at.Lts as lts
-use Rattle.script.proofs.header.range_at.Reads as range-at-reads
-use Rattle.script.proofs.incoming.flash_word_at.Reads as flash-word-at-reads
-use Rattle.script.proofs.incoming.ram_byte_at.Reads as ram-byte-at-reads
 
--- src/header.rt:105:9
 range-at-requires : tie.Need-range-at-requires
 range-at-requires c κs = search needs
 
--- src/header.rt:106:9
 range-at-requires-2 : tie.Need-range-at-requires-2
 range-at-requires-2 c κs = search needs
 
--- src/header.rt:107:9
 range-at-requires-3 : tie.Need-range-at-requires-3
 range-at-requires-3 c κs = search needs
 
--- src/header.rt:108:9
 range-at-requires-4 : tie.Need-range-at-requires-4
 range-at-requires-4 c κs = search needs
 
--- src/header.rt:109:9
 range-at-requires-5 : tie.Need-range-at-requires-5
 range-at-requires-5 c κs = search needs
 
--- src/header.rt:110:9
 range-at-requires-6 : tie.Need-range-at-requires-6
 range-at-requires-6 c κs = search needs
 
--- src/header.rt:111:9
 range-at-requires-7 : tie.Need-range-at-requires-7
 range-at-requires-7 c κs = search needs
 
--- src/header.rt:112:9
 range-at-requires-8 : tie.Need-range-at-requires-8
 range-at-requires-8 c κs = search needs
 
--- src/header.rt:115:14
 ram-byte-at-requires : tie.Need-ram-byte-at-requires
 ram-byte-at-requires c κs = search needs
 
--- src/header.rt:116:15
 ram-byte-at-requires-2 : tie.Need-ram-byte-at-requires-2
 ram-byte-at-requires-2 c κs = omega (arith, c .before .before .before .before .before .before .before .before .before .before .pre)
 
--- src/header.rt:117:15
 ram-byte-at-requires-3 : tie.Need-ram-byte-at-requires-3
 ram-byte-at-requires-3 c κs = omega (arith, c .before .before .before .before .before .before .before .before .before .before .before .pre)
 
--- src/header.rt:118:14
 ram-byte-at-requires-4 : tie.Need-ram-byte-at-requires-4
 ram-byte-at-requires-4 c κs = omega (arith, c .before .before .before .before .before .before .before .before .before .before .before .before .pre)
 
--- src/header.rt:119:13
 flash-word-at-requires : tie.Need-flash-word-at-requires
 flash-word-at-requires c κs = omega (arith, c .before .before .before .before .before .before .before .before .before .before .before .before .before .pre)
 
--- src/header.rt:100:1
 returns : tie.Need-returns
 returns c =
     config-from (c .before .before .before .before .before .before .before .before .before .before .before .before .before .before .args .input .now)

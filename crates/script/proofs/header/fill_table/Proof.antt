@@ -1,10 +1,9 @@
-use Prim.Native.Nat.{_<_}
-use Prim.Native.Nat.{ℕ, _+_, _*_, _≤_}
+-- `script::header::fill_table` meets its contract. The loop: the pairs that are left, written to the table as it is, give the whole table. Assumes nothing.
+use Prim.Native.Nat.{_<_, ℕ, _+_, _*_, _≤_}
 use mathlib.Core.Path.{_≡_, refl, sym, ap, _∙_}
 use mathlib.Core.Bool.{true}
-use mathlib.Core.List.{List}
 use native.Mathlib.Omega.{arith}
-use lib.ListN.{length, replicate, length-set, length-replicate}
+use lib.ListN.{length, length-set, length-replicate}
 use borrow.Author.Needs.{needs}
 use Rattle.rules.specs.Code.{tableWords}
 use Rattle.rules.specs.Return.{wordAt}
@@ -12,10 +11,6 @@ use Rattle.rules.specs.Script.{pairsPlace, countAt, indicesGood, entriesAt}
 use Rattle.script.proofs.Headers.{header-facts, indices-next, indices-here, entries-none, entries-next}
 use Rattle.script.proofs.header.fill_table.Statement.{statement}
 use Rattle.script.proofs.header.fill_table.Tie as tie
-use Rattle.script.proofs.header.fill_table.Reads as reads
-use Rattle.script.proofs.header.fill_table.Lts as lts
-use Rattle.script.proofs.header.count_at.Reads as count-at-reads
-use Rattle.script.proofs.incoming.word_at.Reads as word-at-reads
 
 abbrev Inv-loop : tie.InvT-loop
 Inv-loop input table₀ left₀ at₀ table left at =
@@ -27,11 +22,9 @@ Inv-loop input table₀ left₀ at₀ table left at =
 abbrev μ-loop : tie.MeasureT-loop
 μ-loop input table₀ left₀ at₀ table left at = left
 
--- src/header.rt:126:9
 count-at-requires : tie.Need-count-at-requires Inv-loop μ-loop
 count-at-requires c κs = header-facts (c .before .before .args .input .now) (c .before .before .pre .0) .0
 
--- src/header.rt:128:5
 loop-holds : tie.Need-loop-holds Inv-loop μ-loop
 loop-holds c =
     let input = c .before .before .before .args .input .now in
@@ -39,27 +32,21 @@ loop-holds c =
     let n : c .count-at .result ≡ countAt input = c .count-at .ensures in
     (rw n, omega (arith, n, l), rw n g, refl)
 
--- src/header.rt:129:21
 word-at-requires : tie.Need-word-at-requires Inv-loop μ-loop
 word-at-requires c κs = search needs
 
--- src/header.rt:129:21
 cast-index : tie.Need-cast-index Inv-loop μ-loop
 cast-index c = search needs
 
--- src/header.rt:130:39
 add-word-at : tie.Need-add-word-at Inv-loop μ-loop
 add-word-at c = search needs
 
--- src/header.rt:130:24
 word-at-requires-2 : tie.Need-word-at-requires-2 Inv-loop μ-loop
 word-at-requires-2 c κs = search needs
 
--- src/header.rt:130:9
 mul-table : tie.Need-mul-table Inv-loop μ-loop
 mul-table c = omega arith
 
--- src/header.rt:130:9
 slice-write-table : tie.Need-slice-write-table Inv-loop μ-loop
 slice-write-table c =
     let l = c .before .before .before .loop in
@@ -69,19 +56,15 @@ slice-write-table c =
     let t : length (c .before .before .before .before .before .before .before .args .table .now) ≡ tableWords = ap length (c .before .before .before .before .before .before .before .pre .1) ∙ length-replicate {A = ℕ} tableWords 0 in
     omega (arith, w, h, t, l .inv .3)
 
--- src/header.rt:131:9
 add-at : tie.Need-add-at Inv-loop μ-loop
 add-at c = search needs
 
--- src/header.rt:132:9
 sub-left : tie.Need-sub-left Inv-loop μ-loop
 sub-left c = search needs
 
--- src/header.rt:128:5
 loop-less : tie.Need-loop-less Inv-loop μ-loop
 loop-less c = search needs
 
--- src/header.rt:128:5
 loop-again : tie.Need-loop-again Inv-loop μ-loop
 loop-again c =
     let l = c .before .before .before .loop in
@@ -93,11 +76,9 @@ loop-again c =
       simp length-set (l .inv .3),
     )
 
--- src/header.rt:122:1
 same-length : tie.Need-same-length Inv-loop μ-loop
 same-length c = c .before .loop .inv .3
 
--- src/header.rt:122:1
 returns : tie.Need-returns Inv-loop μ-loop
 returns c =
     let input = c .before .before .before .before .before .args .input .now in

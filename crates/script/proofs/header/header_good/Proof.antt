@@ -1,44 +1,33 @@
-use borrow.Author.Tests.{not-true, not-false}
+-- `script::header::header_good` meets its contract. Assumes nothing.
 use mathlib.Core.Path.{sym, _∙_}
-use Rattle.script.proofs.Headers.{header-short, header-unmarked, header-cut, header-whole}
+use borrow.Author.Tests.{not-true, not-false}
 use borrow.Author.Needs.{needs}
+use Rattle.script.proofs.Headers.{header-short, header-unmarked, header-cut, header-whole}
 use Rattle.script.proofs.header.header_good.Statement.{statement}
 use Rattle.script.proofs.header.header_good.Tie as tie
-use Rattle.script.proofs.header.header_good.Reads as reads
-use Rattle.script.proofs.header.header_good.Lts as lts
-use Rattle.script.proofs.header.indices_good.Reads as indices-good-reads
-use Rattle.script.proofs.header.mark_good.Reads as mark-good-reads
-use Rattle.script.proofs.header.operations_place.Reads as operations-place-reads
 
--- src/header.rt:75:9
 returns : tie.Need-returns
 returns c = sym (header-short (c .before .before .args .input .now) (c .if1 .taken))
 
--- src/header.rt:77:9
 mark-good-requires : tie.Need-mark-good-requires
 mark-good-requires c κs = search needs
 
--- src/header.rt:78:9
 returns-2 : tie.Need-returns-2
 returns-2 c =
     sym (header-unmarked (c .before .before .before .before .args .input .now) (c .before .before .if1 .left) (sym (c .before .mark-good .ensures) ∙ not-true _ (c .if2 .taken)))
 
--- src/header.rt:80:22
 operations-place-requires : tie.Need-operations-place-requires
 operations-place-requires c κs = search needs
 
--- src/header.rt:81:9
 returns-3 : tie.Need-returns-3
 returns-3 c =
     sym
     (header-cut (c .before .before .before .before .before .before .args .input .now) (c .before .before .before .before .if1 .left) (sym (c .before .before .before .mark-good .ensures) ∙ not-false _ (c .before .before .if2 .left))
     (rw (c .before .operations-place .ensures) at (c .if3 .taken)))
 
--- src/header.rt:83:5
 indices-good-requires : tie.Need-indices-good-requires
 indices-good-requires c κs = (c .before .before .before .before .if1 .left, rw (c .before .operations-place .ensures) at (c .if3 .left))
 
--- src/header.rt:71:1
 returns-4 : tie.Need-returns-4
 returns-4 c =
     c .indices-good .ensures

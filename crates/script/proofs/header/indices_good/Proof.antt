@@ -1,5 +1,6 @@
+-- `script::header::indices_good` meets its contract. The loop: what is left decides. Assumes nothing.
 use Prim.Native.Nat.{_+_, _*_, _≤_}
-use mathlib.Core.Path.{_≡_, refl, sym, ap, _∙_}
+use mathlib.Core.Path.{_≡_, sym, ap, _∙_}
 use native.Mathlib.Omega.{arith}
 use lib.ListN.{length}
 use borrow.Author.Needs.{needs}
@@ -7,10 +8,6 @@ use Rattle.rules.specs.Script.{pairsPlace, countAt, indicesGood}
 use Rattle.script.proofs.Headers.{indices-none, indices-next, indices-over}
 use Rattle.script.proofs.header.indices_good.Statement.{statement}
 use Rattle.script.proofs.header.indices_good.Tie as tie
-use Rattle.script.proofs.header.indices_good.Reads as reads
-use Rattle.script.proofs.header.indices_good.Lts as lts
-use Rattle.script.proofs.header.count_at.Reads as count-at-reads
-use Rattle.script.proofs.incoming.word_at.Reads as word-at-reads
 
 abbrev Inv-loop : tie.InvT-loop
 Inv-loop input left₀ at₀ left at = (indicesGood input pairsPlace (countAt input) ≡ indicesGood input at left) × (at + 4 * left ≤ length input)
@@ -18,39 +15,30 @@ Inv-loop input left₀ at₀ left at = (indicesGood input pairsPlace (countAt in
 abbrev μ-loop : tie.MeasureT-loop
 μ-loop input left₀ at₀ left at = left
 
--- src/header.rt:40:9
 count-at-requires : tie.Need-count-at-requires Inv-loop μ-loop
 count-at-requires c κs = search needs
 
--- src/header.rt:42:5
 loop-holds : tie.Need-loop-holds Inv-loop μ-loop
 loop-holds c = (ap (indicesGood _ pairsPlace) (sym (c .count-at .ensures)), omega (arith, c .count-at .ensures))
 
--- src/header.rt:43:12
 word-at-requires : tie.Need-word-at-requires Inv-loop μ-loop
 word-at-requires c κs = search needs
 
--- src/header.rt:44:13
 returns : tie.Need-returns Inv-loop μ-loop
 returns c = sym (c .before .before .before .loop .inv .0 ∙ indices-over _ _ _ (c .before .before .loop-test .taken) (rw (c .before .word-at .ensures) at (c .if1 .taken)))
 
--- src/header.rt:46:9
 add-at : tie.Need-add-at Inv-loop μ-loop
 add-at c = search needs
 
--- src/header.rt:47:9
 sub-left : tie.Need-sub-left Inv-loop μ-loop
 sub-left c = search needs
 
--- src/header.rt:42:5
 loop-less : tie.Need-loop-less Inv-loop μ-loop
 loop-less c = search needs
 
--- src/header.rt:42:5
 loop-again : tie.Need-loop-again Inv-loop μ-loop
 loop-again c = (c .before .before .before .loop .inv .0 ∙ indices-next _ _ _ (c .before .before .loop-test .taken) (rw (c .before .word-at .ensures) at (c .if1 .left)), omega arith)
 
--- src/header.rt:36:1
 returns-2 : tie.Need-returns-2 Inv-loop μ-loop
 returns-2 c = sym (c .before .loop .inv .0 ∙ indices-none _ _ _ (c .loop-test .left))
 

@@ -1,23 +1,17 @@
+-- `script::header::range_at` meets its contract. Assumes nothing.
 use borrow.Author.Needs.{needs}
 use Rattle.script.proofs.header.range_at.Statement.{statement}
 use Rattle.script.proofs.header.range_at.Tie as tie
-use Rattle.script.proofs.header.range_at.Reads as reads
-use Rattle.script.proofs.header.range_at.Lts as lts
-use Rattle.script.proofs.incoming.flash_word_at.Reads as flash-word-at-reads
 
--- src/header.rt:94:16
 flash-word-at-requires : tie.Need-flash-word-at-requires
 flash-word-at-requires c κs = search needs
 
--- src/header.rt:95:35
 add-flash-word-at : tie.Need-add-flash-word-at
 add-flash-word-at c = search needs
 
--- src/header.rt:95:14
 flash-word-at-requires-2 : tie.Need-flash-word-at-requires-2
 flash-word-at-requires-2 c κs = search needs
 
--- src/header.rt:89:1
 returns : tie.Need-returns
 returns c = cc
 

@@ -1,4 +1,4 @@
--- `runtime::numbers::number_of` meets its contract. Assumes nothing.
+-- `script::numbers::number_of` meets its contract. Assumes nothing.
 use borrow.Author.Needs.{needs}
 use Rattle.script.proofs.numbers.number_of.Statement.{statement}
 use Rattle.script.proofs.numbers.number_of.Tie as tie

@@ -1,84 +1,63 @@
-use native.Mathlib.Omega.{arith}
+-- `script::operation::operation_at` meets its contract. Assumes nothing.
 use Prim.Native.Nat.{_+_}
+use mathlib.Core.Path.{_∙_}
+use native.Mathlib.Omega.{arith}
 use lib.ListN.{length}
 use borrow.Author.Tests.{le-leb, lt-leb, ne-eqb}
-use mathlib.Core.Path.{_∙_}
-use Rattle.rules.specs.Script.{operationAt}
 use borrow.Author.Needs.{needs}
+use Rattle.rules.specs.Script.{operationAt}
 use Rattle.script.proofs.operation.operation_at.Statement.{statement}
 use Rattle.script.proofs.operation.operation_at.Tie as tie
-use Rattle.script.proofs.operation.operation_at.Reads as reads
-use Rattle.script.proofs.operation.operation_at.Lts as lts
-use Rattle.script.proofs.operation.call_at.Reads as call-at-reads
-use Rattle.script.proofs.operation.change_at.Reads as change-at-reads
-use Rattle.script.proofs.operation.free_at.Reads as free-at-reads
-use Rattle.script.proofs.operation.malloc_at.Reads as malloc-at-reads
-use Rattle.script.proofs.operation.store_at.Reads as store-at-reads
 
--- src/operation.rt:78:9
 returns : tie.Need-returns
 unfolding operationAt
 returns c = simp (le-leb _ _ (c .if1 .taken))
 
--- src/operation.rt:80:18
 shared-slice-read-number : tie.Need-shared-slice-read-number
 shared-slice-read-number c = search needs
 
--- src/operation.rt:82:14
 store-at-requires : tie.Need-store-at-requires
 store-at-requires c κs = search needs
 
--- src/operation.rt:83:14
 call-at-requires : tie.Need-call-at-requires
 call-at-requires c κs = search needs
 
--- src/operation.rt:84:45
 add-t10 : tie.Need-add-t10
 add-t10 c = search needs
 
--- src/operation.rt:85:14
 malloc-at-requires : tie.Need-malloc-at-requires
 malloc-at-requires c κs = search needs
 
--- src/operation.rt:86:14
 free-at-requires : tie.Need-free-at-requires
 free-at-requires c κs = search needs
 
--- src/operation.rt:87:14
 change-at-requires : tie.Need-change-at-requires
 change-at-requires c κs = search needs
 
--- src/operation.rt:74:1
 returns-2 : tie.Need-returns-2
 unfolding operationAt
 returns-2 c = c .store-at .ensures ∙ rw (lt-leb _ _ (c .before .before .before .if1 .left), c .before .match .keys1)
 
--- src/operation.rt:74:1
 returns-3 : tie.Need-returns-3
 unfolding operationAt
 returns-3 c = c .call-at .ensures ∙ rw (lt-leb _ _ (c .before .before .before .if1 .left), c .before .match .keys2)
 
--- src/operation.rt:74:1
 returns-4 : tie.Need-returns-4
 unfolding operationAt
 returns-4 c = rw (lt-leb _ _ (c .before .before .if1 .left), c .match .keys3, le-leb (c .before .before .before .before .args .at + 1) (length (c .before .before .before .before .args .input .now)) (omega arith))
 
--- src/operation.rt:74:1
 returns-5 : tie.Need-returns-5
 unfolding operationAt
 returns-5 c = c .malloc-at .ensures ∙ rw (lt-leb _ _ (c .before .before .before .if1 .left), c .before .match .keys4)
 
--- src/operation.rt:74:1
 returns-6 : tie.Need-returns-6
 unfolding operationAt
 returns-6 c = c .free-at .ensures ∙ rw (lt-leb _ _ (c .before .before .before .if1 .left), c .before .match .keys5)
 
--- src/operation.rt:74:1
 returns-7 : tie.Need-returns-7
 unfolding operationAt
 returns-7 c = c .change-at .ensures ∙ rw (lt-leb _ _ (c .before .before .before .if1 .left), c .before .match .keys6)
 
--- src/operation.rt:74:1
 returns-8 : tie.Need-returns-8
 unfolding operationAt
 returns-8 c =

@@ -1,17 +1,15 @@
-use Prim.Native.Nat.{_/_, _%_, _≤_}
-use mathlib.Core.Path.{_≡_, _∙_}
+-- `script::text::put_decimal` meets its contract. The measure is the number: each call prints a tenth of it. Assumes nothing.
+use Prim.Native.Nat.{ℕ, _/_, _<_}
 use native.Mathlib.Omega.{arith}
-use lib.ListN.{length, length-set}
-use borrow.Author.Needs.{needs}
-use Rattle.script.proofs.Texts.{wrote-byte, wrote-then, decimal-one, decimal-more, decimal-short}
-use Prim.Native.Nat.{ℕ, _<_}
+use lib.ListN.{length-set}
 use borrow.Fn.Kinds.{In}
 use borrow.Fn.PlainCycle.{Measures, is, falls, and}
+use Rattle.script.proofs.Texts.{wrote-byte, wrote-then, decimal-one, decimal-more, decimal-short}
+use Rattle.script.proofs.text.+put_decimal.Tie.{close}
+use Rattle.script.proofs.text.+put_decimal.{statement}
 use Rattle.script.proofs.text.put_decimal.Reads as put-decimal
 use Rattle.script.proofs.text.put_decimal.Kinds as put-decimal-kinds
 use Rattle.script.proofs.text.+put_decimal.Lts-put_decimal as put-decimal-lts
-use Rattle.script.proofs.text.+put_decimal.{statement}
-use Rattle.script.proofs.text.+put_decimal.Tie.{close}
 
 abbrev μ-put-decimal : Measures 1 put-decimal-kinds.ps ℕ
 μ-put-decimal κs a = a .1 .1 .0
@@ -24,42 +22,36 @@ abbrev put-decimal-below : ℕ → In 1 put-decimal-kinds.ps
 put-decimal-below t =
     and 1 put-decimal-kinds.ps (falls 1 put-decimal-kinds.ps _<_ μ-put-decimal t) put-decimal.Pre
 
--- src/text.rt:34:26
 put-decimal-cast-out : (t : ℕ) → put-decimal-lts.Need-cast-out (
   put-decimal-below t,
   put-decimal.Post,
 ) (put-decimal-at t) put-decimal.Post
 put-decimal-cast-out t c = omega arith
 
--- src/text.rt:34:19
 put-decimal-add-out : (t : ℕ) → put-decimal-lts.Need-add-out (
   put-decimal-below t,
   put-decimal.Post,
 ) (put-decimal-at t) put-decimal.Post
 put-decimal-add-out t c = omega arith
 
--- src/text.rt:34:9
 put-decimal-slice-write-out : (t : ℕ) → put-decimal-lts.Need-slice-write-out (
   put-decimal-below t,
   put-decimal.Post,
 ) (put-decimal-at t) put-decimal.Post
 put-decimal-slice-write-out t c = omega arith
 
--- src/text.rt:35:16
 put-decimal-add-result : (t : ℕ) → put-decimal-lts.Need-add-result (
   put-decimal-below t,
   put-decimal.Post,
 ) (put-decimal-at t) put-decimal.Post
 put-decimal-add-result t c = omega arith
 
--- src/text.rt:35:9
 put-decimal-same-length : (t : ℕ) → put-decimal-lts.Need-same-length (
   put-decimal-below t,
   put-decimal.Post,
 ) (put-decimal-at t) put-decimal.Post
 put-decimal-same-length t c = simp length-set
 
--- src/text.rt:35:9
 put-decimal-returns : (t : ℕ) → put-decimal-lts.Need-returns (
   put-decimal-below t,
   put-decimal.Post,
@@ -68,28 +60,24 @@ put-decimal-returns t c =
     let n = c .before .before .args .n in
     rw (decimal-one n (c .if1 .taken)) (wrote-byte _ _ _ (put-decimal-slice-write-out t c))
 
--- src/text.rt:37:9
 put-decimal-put-decimal-requires : (t : ℕ) → put-decimal-lts.Need-put-decimal-requires (
   put-decimal-below t,
   put-decimal.Post,
 ) (put-decimal-at t) put-decimal.Post
 put-decimal-put-decimal-requires t c κs = omega arith
 
--- src/text.rt:38:24
 put-decimal-cast-out-2 : (t : ℕ) → put-decimal-lts.Need-cast-out-2 (
   put-decimal-below t,
   put-decimal.Post,
 ) (put-decimal-at t) put-decimal.Post
 put-decimal-cast-out-2 t c = omega arith
 
--- src/text.rt:38:17
 put-decimal-add-out-2 : (t : ℕ) → put-decimal-lts.Need-add-out-2 (
   put-decimal-below t,
   put-decimal.Post,
 ) (put-decimal-at t) put-decimal.Post
 put-decimal-add-out-2 t c = omega arith
 
--- src/text.rt:38:5
 put-decimal-slice-write-out-2 : (t : ℕ) → put-decimal-lts.Need-slice-write-out-2 (
   put-decimal-below t,
   put-decimal.Post,
@@ -98,7 +86,6 @@ put-decimal-slice-write-out-2 t c =
     let n = c .before .before .before .before .before .before .args .n in
     omega (arith, decimal-short (n / 10) (omega arith), c .before .before .put-decimal .ensures .place, c .before .before .put-decimal .kept .0)
 
--- src/text.rt:39:5
 put-decimal-add-result-2 : (t : ℕ) → put-decimal-lts.Need-add-result-2 (
   put-decimal-below t,
   put-decimal.Post,
@@ -107,14 +94,12 @@ put-decimal-add-result-2 t c =
     let n = c .before .before .before .before .before .before .args .n in
     omega (arith, decimal-short (n / 10) (omega arith), c .before .before .put-decimal .ensures .place)
 
--- src/text.rt:29:1
 put-decimal-same-length-2 : (t : ℕ) → put-decimal-lts.Need-same-length-2 (
   put-decimal-below t,
   put-decimal.Post,
 ) (put-decimal-at t) put-decimal.Post
 put-decimal-same-length-2 t c = simp length-set (c .before .before .put-decimal .kept .0)
 
--- src/text.rt:29:1
 put-decimal-returns-2 : (t : ℕ) → put-decimal-lts.Need-returns-2 (
   put-decimal-below t,
   put-decimal.Post,

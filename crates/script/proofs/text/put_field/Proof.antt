@@ -1,31 +1,24 @@
+-- `script::text::put_field` meets its contract. Assumes nothing.
 use mathlib.Core.Path.{_∙_}
 use native.Mathlib.Omega.{arith}
 use lib.ListN.{length-set}
-use Rattle.script.proofs.Texts.{wrote-byte, wrote-then}
 use borrow.Author.Needs.{needs}
+use Rattle.script.proofs.Texts.{wrote-byte, wrote-then}
 use Rattle.script.proofs.text.put_field.Statement.{statement}
 use Rattle.script.proofs.text.put_field.Tie as tie
-use Rattle.script.proofs.text.put_field.Reads as reads
-use Rattle.script.proofs.text.put_field.Lts as lts
-use Rattle.script.proofs.text.put_decimal.Reads as put-decimal-reads
 
--- src/text.rt:46:5
 slice-write-out : tie.Need-slice-write-out
 slice-write-out c = search needs
 
--- src/text.rt:47:22
 add-put-decimal : tie.Need-add-put-decimal
 add-put-decimal c = search needs
 
--- src/text.rt:47:5
 put-decimal-requires : tie.Need-put-decimal-requires
 put-decimal-requires c κs = simp length-set (omega arith)
 
--- src/text.rt:42:1
 same-length : tie.Need-same-length
 same-length c = c .before .before .put-decimal .kept .0 ∙ simp length-set
 
--- src/text.rt:42:1
 returns : tie.Need-returns
 returns c = wrote-then (wrote-byte _ _ _ (omega arith)) (c .before .before .put-decimal .ensures)
 

@@ -1,45 +1,32 @@
+-- `script::text::put_line` meets its contract. Assumes nothing.
 use native.Mathlib.Omega.{arith}
 use lib.ListN.{length-set}
-use Rattle.script.proofs.Texts.{Step, step-then, step-decimal, step-field, wrote-line}
 use borrow.Author.Needs.{needs}
+use Rattle.script.proofs.Texts.{Step, step-then, step-decimal, step-field, wrote-line}
 use Rattle.script.proofs.text.put_line.Statement.{statement}
 use Rattle.script.proofs.text.put_line.Tie as tie
-use Rattle.script.proofs.text.put_line.Reads as reads
-use Rattle.script.proofs.text.put_line.Lts as lts
-use Rattle.script.proofs.numbers.number_of.Reads as number-of-reads
-use Rattle.script.proofs.numbers.value_of.Reads as value-of-reads
-use Rattle.script.proofs.text.put_decimal.Reads as put-decimal-reads
-use Rattle.script.proofs.text.put_field.Reads as put-field-reads
 
--- src/text.rt:57:9
 put-decimal-requires : tie.Need-put-decimal-requires
 put-decimal-requires c κs = search needs
 
--- src/text.rt:58:29
 number-of-requires : tie.Need-number-of-requires
 number-of-requires c κs = search needs
 
--- src/text.rt:58:29
 cast-put-field : tie.Need-cast-put-field
 cast-put-field c = search needs
 
--- src/text.rt:58:5
 put-field-requires : tie.Need-put-field-requires
 put-field-requires c κs = omega (arith, c .before .before .before .before .before .before .before .before .pre, step-decimal _ (c .before .before .before .before .put-decimal .ensures))
 
--- src/text.rt:59:29
 value-of-requires : tie.Need-value-of-requires
 value-of-requires c κs = search needs
 
--- src/text.rt:59:5
 put-field-requires-2 : tie.Need-put-field-requires-2
 put-field-requires-2 c κs = omega (arith, c .before .before .before .before .before .before .before .before .before .before .before .before .before .pre, step-decimal _ (c .before .before .before .before .before .before .before .before .before .put-decimal .ensures), step-field _ (c .before .before .before .before .put-field .ensures))
 
--- src/text.rt:60:29
 cast-put-field-2 : tie.Need-cast-put-field-2
 cast-put-field-2 c = search needs
 
--- src/text.rt:60:5
 put-field-requires-3 : tie.Need-put-field-requires-3
 put-field-requires-3 c κs =
     omega (
@@ -50,7 +37,6 @@ put-field-requires-3 c κs =
       step-field _ (c .before .before .before .before .put-field2 .ensures),
     )
 
--- src/text.rt:61:5
 put-field-requires-4 : tie.Need-put-field-requires-4
 put-field-requires-4 c κs =
     omega (
@@ -62,7 +48,6 @@ put-field-requires-4 c κs =
       step-field _ (c .before .before .before .put-field3 .ensures),
     )
 
--- src/text.rt:62:5
 put-field-requires-5 : tie.Need-put-field-requires-5
 put-field-requires-5 c κs =
     omega (
@@ -91,15 +76,12 @@ room c =
 slice-write-out : tie.Need-slice-write-out
 slice-write-out c = omega (arith, room c, c .before .before .before .before .before .before .before .before .before .before .before .before .before .before .before .before .before .before .before .before .before .before .before .before .before .before .before .before .before .pre)
 
--- src/text.rt:64:5
 add-result : tie.Need-add-result
 add-result c = omega (arith, room c, c .before .before .before .before .before .before .before .before .before .before .before .before .before .before .before .before .before .before .before .before .before .before .before .before .before .before .before .before .before .pre, c .before .before .before .before .before .before .before .before .before .before .before .before .before .before .before .before .before .before .before .before .before .before .before .before .before .before .before .before .before .good .0 .0)
 
--- src/text.rt:51:1
 same-length : tie.Need-same-length
 same-length c = simp length-set (room c .kept)
 
--- src/text.rt:51:1
 returns : tie.Need-returns
 returns c =
     wrote-line _ _ _ (c .before .before .before .before .before .before .before .before .before .before .before .before .before .before .before .before .before .before .before .before .before .before .before .before .before .before .before .before .before .args .o)

@@ -1,36 +1,26 @@
+-- `script::text::put_set_up` meets its contract. Assumes nothing.
 use native.Mathlib.Omega.{arith}
 use lib.ListN.{length-set}
 use borrow.Author.Needs.{needs}
 use Rattle.script.proofs.Texts.{Step, step, step-then, step-decimal, wrote-set-up}
 use Rattle.script.proofs.text.put_set_up.Statement.{statement}
 use Rattle.script.proofs.text.put_set_up.Tie as tie
-use Rattle.script.proofs.text.put_set_up.Reads as reads
-use Rattle.script.proofs.text.put_set_up.Lts as lts
-use Rattle.script.proofs.numbers.number_of.Reads as number-of-reads
-use Rattle.script.proofs.text.put_decimal.Reads as put-decimal-reads
-use Rattle.script.proofs.text.put_text.Reads as put-text-reads
 
--- src/text.rt:73:35
 slice-aggregate-put-text : tie.Need-slice-aggregate-put-text
 slice-aggregate-put-text c = search needs
 
--- src/text.rt:73:9
 put-text-requires : tie.Need-put-text-requires
 put-text-requires c κs = search needs
 
--- src/text.rt:74:31
 number-of-requires : tie.Need-number-of-requires
 number-of-requires c κs = search needs
 
--- src/text.rt:74:31
 cast-put-decimal : tie.Need-cast-put-decimal
 cast-put-decimal c = search needs
 
--- src/text.rt:74:5
 put-decimal-requires : tie.Need-put-decimal-requires
 put-decimal-requires c κs = omega (arith, c .before .before .before .before .before .before .before .before .pre, step 12 (omega arith) (c .before .before .before .before .put-text .ensures))
 
--- src/text.rt:75:5
 -- all that is written before the last new line
 room :
     (c : tie.After-slice-known3)
@@ -40,15 +30,12 @@ room c = step-then (step 12 (omega arith) (c .before .before .before .before .be
 slice-write-out : tie.Need-slice-write-out
 slice-write-out c = omega (arith, room c, c .before .before .before .before .before .before .before .before .before .before .before .pre)
 
--- src/text.rt:76:5
 add-result : tie.Need-add-result
 add-result c = omega (arith, room c, c .before .before .before .before .before .before .before .before .before .before .before .pre)
 
--- src/text.rt:68:1
 same-length : tie.Need-same-length
 same-length c = simp length-set (room c .kept)
 
--- src/text.rt:68:1
 returns : tie.Need-returns
 returns c = wrote-set-up _ (c .before .before .before .before .before .before .before .before .before .before .before .args .o) (c .before .before .before .number-of .ensures) (c .before .before .before .before .before .before .before .put-text .ensures) (c .before .before .put-decimal .ensures)
     (slice-write-out c)
