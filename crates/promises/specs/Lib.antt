@@ -1,6 +1,10 @@
--- Demand 3: operations and histories, the two ghosts that are made from them, and what is promised.
+-- What is promised, to be read beside document 01.
+-- Demand 3: operations and histories, the two ghosts that are made from them, and the promise
 pub mod Operations
 pub mod History
 pub mod Ledger
 pub mod Calls
 pub mod Promise
+-- section 8
+pub mod Sample
+pub mod Limits

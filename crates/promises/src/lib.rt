@@ -1,1 +1,1 @@
-// Demand 3: what holds after every sequence of operations. The statements stand in specs/, the proofs in proofs/. No code.
+// What document 01's rules promise, stated in specs/ and proved in proofs/. No code.

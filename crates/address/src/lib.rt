@@ -1,0 +1,120 @@
+// The three kinds of address, and every way from a number or from one kind to another: no other file makes one from a number, but
+// for those where numbers come in from outside. A block is 8 bytes here and nowhere else in the code.
+ghost use mathlib.Core.Path.{_≡_};
+ghost use Prim.Native.Nat.{suc, _+_, _-_, _*_, _≤_, _<_};
+ghost use lib.Dec.{eqb};
+ghost use Rattle.rules.specs.Memory.{blockBytes, startOf, blockOf, isMultiple, blocksFor, ramBytes};
+ghost use Rattle.rules.specs.Code.{flashWord};
+ghost use Rattle.rules.specs.State.{ramByte};
+ghost use Rattle.rules.specs.Malloc.{block};
+use rules::Block;
+use rules::FlashWord;
+use rules::RamByte;
+
+const BLOCK_BYTES: u16 = 8;
+
+// The block that an address from bot on lies in.
+pub fn block_of(bot: RamByte, a: RamByte) -> Block
+    requires { ⌜ bot .0 ≤ a .0 ⌝ }
+    ensures { λ r. ⌜ r ≡ block (blockOf bot a) ⌝ }
+{
+    Block((a.0 - bot.0) / BLOCK_BYTES)
+}
+
+// The first byte of a block.
+pub fn start_of(bot: RamByte, k: Block) -> RamByte
+    requires { ⌜ startOf bot (k .0) < 65536 ⌝ }
+    ensures { λ r. ⌜ r ≡ ramByte (startOf bot (k .0)) ⌝ }
+{
+    RamByte(bot.0 + k.0 * BLOCK_BYTES)
+}
+
+// The block n further on.
+pub fn further(k: Block, n: u16) -> Block
+    requires { ⌜ k .0 + n < 65536 ⌝ }
+    ensures { λ r. ⌜ r ≡ block (k .0 + n) ⌝ }
+{
+    Block(k.0 + n)
+}
+
+// The first block of the protected range.
+pub fn first_block() -> Block
+    ensures { λ r. ⌜ r ≡ block 0 ⌝ }
+{
+    Block(0)
+}
+
+pub fn is_multiple(a: RamByte) -> bool
+    ensures { λ r. ⌜ r ≡ isMultiple a ⌝ }
+{
+    a.0 % BLOCK_BYTES == 0
+}
+
+// How many blocks hold size bytes: rounded up, and the sum cannot pass 65535.
+pub fn blocks_for(size: u16) -> u16
+    ensures { λ r. ⌜ r ≡ blocksFor size ⌝ }
+{
+    size / BLOCK_BYTES + (size % BLOCK_BYTES + (BLOCK_BYTES - 1)) / BLOCK_BYTES
+}
+
+// The byte n above another.
+pub fn above(a: RamByte, n: u16) -> RamByte
+    requires { ⌜ a .0 + n < 65536 ⌝ }
+    ensures { λ r. ⌜ r ≡ ramByte (a .0 + n) ⌝ }
+{
+    RamByte(a.0 + n)
+}
+
+// The byte n below another.
+pub fn below(a: RamByte, n: u16) -> RamByte
+    requires { ⌜ n ≤ a .0 ⌝ }
+    ensures { λ r. ⌜ r ≡ ramByte (a .0 - n) ⌝ }
+{
+    RamByte(a.0 - n)
+}
+
+// The last byte of RAM, which bounds the stack of a fresh state.
+pub fn last_byte() -> RamByte
+    ensures { λ r. ⌜ r ≡ ramByte (ramBytes - 1) ⌝ }
+{
+    RamByte(4095)
+}
+
+// The zero of a refused set-up's state.
+pub fn zero_byte() -> RamByte
+    ensures { λ r. ⌜ r ≡ ramByte 0 ⌝ }
+{
+    RamByte(0)
+}
+
+pub fn zero_word() -> FlashWord
+    ensures { λ r. ⌜ r ≡ flashWord 0 ⌝ }
+{
+    FlashWord(0)
+}
+
+// Sixteen bits of a frame, low byte first.
+fn joined(low: u8, high: u8) -> u16
+    ensures { λ r. ⌜ r ≡ low + 256 * high ⌝ }
+{
+    low as u16 + 256 * (high as u16)
+}
+
+pub fn byte_of(low: u8, high: u8) -> RamByte
+    ensures { λ r. ⌜ r ≡ ramByte (low + 256 * high) ⌝ }
+{
+    RamByte(joined(low, high))
+}
+
+pub fn word_of(low: u8, high: u8) -> FlashWord
+    ensures { λ r. ⌜ r ≡ flashWord (low + 256 * high) ⌝ }
+{
+    FlashWord(joined(low, high))
+}
+
+// An entry of a jump table.
+pub fn entry(word: u16) -> FlashWord
+    ensures { λ r. ⌜ r ≡ flashWord word ⌝ }
+{
+    FlashWord(word)
+}
