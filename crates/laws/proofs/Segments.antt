@@ -6,10 +6,12 @@ use mathlib.Core.Logic.{_≢_}
 use mathlib.Core.List.{List}
 use native.Mathlib.Decide.{ℕ-discrete}
 use native.Mathlib.Omega.{arith}
-use borrow.Author.Tests.{eq-eqb, ne-eqb}
+use lib.Dec.{ltb}
+use borrow.Author.Tests.{eq-eqb, ne-eqb, ltb-true, ltb-false}
 use Rattle.rules.specs.declared.Config.{Config}
 use Rattle.rules.specs.Memory.{safeBlock, codeOf, laterCode, ownerOf}
 use Rattle.rules.specs.Free.{continued, segmentBlocks}
+use Rattle.laws.proofs.Tests.{byTest}
 
 module _ (c : Config) (ram : List ℕ) where
   -- ---- the steps of counting
@@ -60,6 +62,23 @@ module _ (c : Config) (ram : List ℕ) where
             let m : continued c ram d k (suc left) ≡ suc (continued c ram d (suc k) left) = continued-more d k left e in
             continued-last d (suc k) left j (omega arith) (omega arith)
         | no n ↦ let i : j ≡ k = omega (arith, continued-stop d k left n) in rw i n
+      ]
+
+  -- so n blocks are counted, if n continue the segment and the one behind them does not
+  pub continued-is : (d k left n : ℕ) → n ≤ left → ((j : ℕ) → k ≤ j → j < k + n → codeOf (c .bot) ram j ≡ laterCode d)
+      → (n < left → codeOf (c .bot) ram (k + n) ≢ laterCode d) → continued c ram d k left ≡ n
+  continued-is d k left n l on off =
+      elim (ℕ-discrete (continued c ram d k left) n) [
+        | yes e ↦ e
+        | no q ↦
+            byTest (ltb n (continued c ram d k left))
+            (λ t.
+            let m : n < continued c ram d k left = ltb-true _ _ t in
+            absurd (off (omega (arith, continued-le d k left)) (continued-code d k left (k + n) (omega arith) (omega arith))))
+            (λ t.
+            let m : continued c ram d k left < n = omega (arith, ltb-false n (continued c ram d k left) t) in
+            absurd (continued-last d k left (k + continued c ram d k left) refl (omega arith)
+            (on (k + continued c ram d k left) (omega arith) (omega arith))))
       ]
 
   -- ---- a segment
