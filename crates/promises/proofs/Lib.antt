@@ -1,4 +1,7 @@
 -- The proofs of what specs/ promises.
+-- section 8
 pub mod Limits
+pub mod Sample
+-- Demand 3
 pub mod Row
 pub mod Shown
