@@ -85,6 +85,12 @@ Bytes ram = (i : ℕ) → getD ram i 0 < 256
 
 -- ---- one code
 
+-- a code is read from its byte alone
+pub code-of-byte : (bot : RamByte) (ram ram′ : List ℕ) (k : ℕ) → getD ram (mapByte bot k) 0 ≡ getD ram′ (mapByte bot k) 0
+    → codeOf bot ram k ≡ codeOf bot ram′ k
+unfolding codeOf
+code-of-byte bot ram ram′ k e = rw e
+
 module _ (bot : RamByte) (ram : List ℕ) where
   pub code-lt : (k : ℕ) → codeOf bot ram k < radix
   unfolding codeOf

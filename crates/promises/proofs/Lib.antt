@@ -5,3 +5,4 @@ pub mod Sample
 -- Demand 3
 pub mod Row
 pub mod Shown
+pub mod Holds
