@@ -6,3 +6,4 @@ pub mod Sample
 pub mod Row
 pub mod Shown
 pub mod Holds
+pub mod Store
