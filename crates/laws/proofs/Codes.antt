@@ -6,7 +6,7 @@ use mathlib.Core.Logic.{_≢_}
 use mathlib.Core.Bool.{Bool, true, false, not, cond}
 use native.Mathlib.Nat.{add-zero, add-suc, suc-add}
 use native.Mathlib.Omega.{arith}
-use lib.ListN.{length, getD}
+use lib.ListN.{length, getD, length-replicate, getD-replicate}
 use borrow.Author.Tests.{eqb-true, eqb-false, not-true, ne-eqb, eq-eqb, lt-ltb, le-ltb}
 use lib.Dec.{eqb, ltb}
 use Rattle.rules.specs.declared.Config.{Config}
@@ -32,6 +32,18 @@ freeCode-lt = omega arith
 pub segmentCodes-below : (d n : ℕ) → d ≤ trusted → AllBelow radix (segmentCodes d n)
 segmentCodes-below d zero h = none
 segmentCodes-below d (suc n) h = one (startCode-lt d h) (all-replicate radix n (laterCode d) (laterCode-lt d h))
+
+pub length-segmentCodes : (d n : ℕ) → length (segmentCodes d n) ≡ n
+length-segmentCodes d zero = refl
+length-segmentCodes d (suc n) = ap suc (length-replicate n (laterCode d))
+
+pub getD-segmentCodes-first : (d n : ℕ) → 0 < n → getD (segmentCodes d n) 0 0 ≡ startCode d
+getD-segmentCodes-first d zero h = absurd (omega arith)
+getD-segmentCodes-first d (suc n) h = refl
+
+pub getD-segmentCodes-later : (d n i : ℕ) → suc i < n → getD (segmentCodes d n) (suc i) 0 ≡ laterCode d
+getD-segmentCodes-later d zero i h = absurd (omega arith)
+getD-segmentCodes-later d (suc n) i h = getD-replicate n i (laterCode d) 0 (omega arith)
 
 either : (P : ℕ → Type 0) {a b : ℕ} (t : Bool) → P a → P b → P (cond t a b)
 either P true h k = h

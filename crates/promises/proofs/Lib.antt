@@ -7,3 +7,4 @@ pub mod Row
 pub mod Shown
 pub mod Holds
 pub mod Store
+pub mod Malloc

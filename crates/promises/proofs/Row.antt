@@ -8,13 +8,14 @@ use mathlib.Core.Bool.{Bool, true, false, _&&_, true≢false}
 use mathlib.Core.List.{List, [], _∷_}
 use native.Mathlib.Omega.{arith}
 use native.Mathlib.Decide.{ℕ-discrete}
+use lib.ListN.{getD}
 use lib.Dec.{ltb, eqb}
 use borrow.Author.Tests.{ltb-true, ltb-false, eqb-true, eqb-false, lt-ltb, le-ltb, eq-eqb, ne-eqb}
 use Rattle.rules.specs.declared.Config.{Config}
-use Rattle.rules.specs.Memory.{startOf, blockOf, heapBlock, safeBlock, startCode, laterCode, freeCode, startsSegment, trusted}
+use Rattle.rules.specs.Memory.{startOf, blockOf, heapBlock, safeBlock, startCode, laterCode, freeCode, startsSegment, segmentCodes, trusted}
 use Rattle.laws.proofs.Tests.{byTest, both, and-true}
 use Rattle.laws.proofs.Blocks.{start-mono, start-lt, blockBytes-pos}
-use Rattle.laws.proofs.Codes.{start≢free, start≢later, later≢free, starts-start, starts-later, starts-free}
+use Rattle.laws.proofs.Codes.{start≢free, start≢later, later≢free, starts-start, starts-later, starts-free, getD-segmentCodes-first, getD-segmentCodes-later}
 use Rattle.promises.specs.Ledger.{Segment, entered, struck, madeOver, changed, firstBlock, endBlock, InHeap, Apart, codeBy}
 use Rattle.promises.specs.Promise.{_∈_}
 
@@ -80,6 +81,14 @@ module _ (c : Config) where
         | yes e ↦ code-first g gs k e ∙ sym (code-first g fs k e)
         | no n ↦ code-later g gs k (omega arith) u ∙ sym (code-later g fs k (omega arith) u)
       ]
+
+  -- those of g, in order
+  pub code-segment : (g : Segment) (gs : List Segment) (i : ℕ) → i < g .blocks
+      → codeBy c (g ∷ gs) (firstBlock c g + i) ≡ getD (segmentCodes (g .owner) (g .blocks)) i 0
+  code-segment g gs zero l =
+      code-first g gs (firstBlock c g + 0) (omega arith) ∙ sym (getD-segmentCodes-first (g .owner) (g .blocks) l)
+  code-segment g gs (suc i) l =
+      code-later g gs (firstBlock c g + suc i) (omega arith) (omega arith) ∙ sym (getD-segmentCodes-later (g .owner) (g .blocks) i l)
 
   code-cong : (g : Segment) (gs fs : List Segment) (k : ℕ) → codeBy c gs k ≡ codeBy c fs k → codeBy c (g ∷ gs) k ≡ codeBy c (g ∷ fs) k
   unfolding codeBy
