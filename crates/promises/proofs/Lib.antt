@@ -8,3 +8,4 @@ pub mod Shown
 pub mod Holds
 pub mod Store
 pub mod Malloc
+pub mod Free

@@ -1,0 +1,159 @@
+-- Free and change of owner keep the invariant: the segment that the map shows at the address is one of the ledger's.
+-- Assumes nothing.
+use Prim.Native.Nat.{ℕ, zero, suc, _+_, _-_, _≤_, _<_}
+use mathlib.Core.Path.{_≡_, refl, sym, ap, _∙_}
+use mathlib.Core.Bool.{Bool, true, false, not}
+use mathlib.Core.List.{List, [], _∷_}
+use native.Mathlib.Omega.{arith}
+use lib.ListN.{length, replicate, length-replicate, getD-replicate}
+use lib.Dec.{eqb, leb, ltb}
+use borrow.Author.Tests.{leb-true, leb-false, ltb-true, eqb-true, not-false}
+use Rattle.rules.specs.declared.RamByte.{RamByte}
+use Rattle.rules.specs.declared.Config.{Config}
+use Rattle.rules.specs.declared.State.{State}
+use Rattle.rules.specs.declared.Answer.{Answer}
+use Rattle.rules.specs.declared.Answer.the-variants.{Done, Refused}
+use Rattle.rules.specs.declared.Refusal.{Refusal}
+use Rattle.rules.specs.declared.Refusal.the-variants.{WrongSize, BadState, NoSegment, NotOwner, DomainAbove}
+use Rattle.rules.specs.Memory.{ramBytes, radix, startOf, blockOf, heapBlock, safeBlock, codeOf, setCodes, segmentCodes, freeCode, ownerOf, startsSegment, trusted}
+use Rattle.rules.specs.State.{goodState}
+use Rattle.rules.specs.Answers.{give}
+use Rattle.rules.specs.Store.{ownerAt}
+use Rattle.rules.specs.Free.{isSegment, segmentBlocks, blocksAt, freeAnswer, freeOf, changeAnswer, changeOf}
+use Rattle.laws.proofs.Tests.{each}
+use Rattle.laws.proofs.Answers.{passed}
+use Rattle.laws.proofs.AllBelow.{all-replicate}
+use Rattle.laws.proofs.Blocks.{block-le, block-lt}
+use Rattle.laws.proofs.Codes.{freeCode-lt, length-segmentCodes, segmentCodes-below}
+use Rattle.laws.proofs.Good.{GoodConfig, bot<heap}
+use Rattle.promises.specs.Operations.{Operation, free, change}
+use Rattle.promises.specs.Ledger.{Segment, struck, madeOver, changed, booked, firstBlock, endBlock, InHeap, codeBy}
+use Rattle.promises.specs.Calls.{OpenCall, noted}
+use Rattle.promises.specs.Promise.{_∈_}
+use Rattle.promises.proofs.Row.{row-in-heap, holder, strike-row, change-row, code-segment}
+use Rattle.promises.proofs.Shown.{member-blocks, member-owner}
+use Rattle.promises.proofs.Holds.{Holds, write-codes}
+
+-- the tables of free and change
+abbrev pub freeRows : State → List ℕ → RamByte → List (Bool × Refusal)
+freeRows s ram a =
+    (not (eqb (length ram) ramBytes), WrongSize)
+    ∷ (not (goodState s), BadState)
+    ∷ (not (isSegment (s .config) ram a), NoSegment)
+    ∷ (not (eqb (ownerAt s ram a) (s .domain)), NotOwner)
+    ∷ []
+
+abbrev pub changeRows : State → List ℕ → RamByte → ℕ → List (Bool × Refusal)
+changeRows s ram a d =
+    (not (eqb (length ram) ramBytes), WrongSize)
+    ∷ (not (goodState s), BadState)
+    ∷ (not (isSegment (s .config) ram a), NoSegment)
+    ∷ (not (eqb (ownerAt s ram a) (s .domain)), NotOwner)
+    ∷ (leb trusted d, DomainAbove)
+    ∷ []
+
+-- where a segment starts in the heap
+record StartAt (c : Config) (ram : List ℕ) (a : RamByte) : Type 0 where
+  fromHeap : heapBlock c ≤ blockOf (c .bot) a
+  toSafe : blockOf (c .bot) a < safeBlock c
+  atBlock : startOf (c .bot) (blockOf (c .bot) a) ≡ a .0
+  starts : startsSegment (codeOf (c .bot) ram (blockOf (c .bot) a)) ≡ true
+
+start-at : (c : Config) (ram : List ℕ) (a : RamByte) → GoodConfig c → isSegment c ram a ≡ true → StartAt c ram a
+unfolding heapBlock safeBlock
+start-at c ram a g t =
+    let (from, (to, (at, starts))) =
+    each (leb (c .heap .0) (a .0))
+    (ltb (a .0) (c .safe .0)
+    ∷ eqb (startOf (c .bot) (blockOf (c .bot) a)) (a .0)
+    ∷ startsSegment (codeOf (c .bot) ram (blockOf (c .bot) a))
+    ∷ []) t in
+    let l : c .heap .0 ≤ a .0 = leb-true _ _ from in
+    record {
+      fromHeap = block-le (c .bot) (c .heap) a l;
+      toSafe = block-lt (c .bot) a (c .safe) (g .botMultiple) (g .safeMultiple) (omega (arith, bot<heap g)) (ltb-true _ _ to);
+      atBlock = eqb-true _ _ at;
+      starts = starts;
+    }
+
+-- the segment of the ledger that starts at an address
+pub record SegmentAt (s : State) (ram : List ℕ) (gs : List Segment) (a : RamByte) : Type 0 where
+  pub segment : Segment
+  pub member : segment ∈ gs
+  pub first : firstBlock (s .config) segment ≡ blockOf (s .config .bot) a
+  pub address : segment .address ≡ a .0
+  pub count : blocksAt s ram a ≡ segment .blocks
+  pub owner : ownerAt s ram a ≡ segment .owner
+
+module _ (s : State) (ram : List ℕ) (gs : List Segment) (ks : List OpenCall) (h : Holds s ram gs ks) where
+  pub segment-at : (a : RamByte) → isSegment (s .config) ram a ≡ true → SegmentAt s ram gs a
+  segment-at a t =
+      let c : Config = s .config in
+      let at : StartAt c ram a = start-at c ram a (h .good .config) t in
+      let (g, m, e) =
+      holder c (heapBlock c) gs (h .row) (blockOf (c .bot) a)
+      (sym (ap startsSegment (h .heap (blockOf (c .bot) a) (at .fromHeap) (at .toSafe))) ∙ at .starts) in
+      record {
+        segment = g;
+        member = m;
+        first = e;
+        address = sym (row-in-heap c (heapBlock c) gs (h .row) g m .atBlock) ∙ ap (startOf (c .bot)) e ∙ at .atBlock;
+        count = ap (segmentBlocks c ram) (sym e) ∙ member-blocks c ram (heapBlock c) gs (h .row) (h .heap) g m;
+        owner = ap (λ (k : ℕ). ownerOf (codeOf (c .bot) ram k)) (sym e) ∙ member-owner c ram (heapBlock c) gs (h .row) (h .heap) g m;
+      }
+
+  free-keeps : (a : RamByte) → SegmentAt s ram gs a
+      → Holds s (setCodes (s .config .bot) ram (blockOf (s .config .bot) a) (replicate (blocksAt s ram a) freeCode)) (struck (a .0) gs) ks
+  free-keeps a at =
+      let c : Config = s .config in
+      let g : Segment = at .segment in
+      let in-heap : InHeap c g = row-in-heap c (heapBlock c) gs (h .row) g (at .member) in
+      let vs : List ℕ = replicate (g .blocks) freeCode in
+      let len : length vs ≡ g .blocks = length-replicate (g .blocks) freeCode in
+      let (row, inside, outside) = strike-row c (heapBlock c) gs (h .row) g (at .member) in
+      rw (at .count, ← (at .first), ← (at .address))
+      (write-codes s ram gs ks h (firstBlock c g) vs (struck (g .address) gs) (in-heap .fromHeap) (omega (arith, in-heap .toSafe))
+      (all-replicate radix (g .blocks) freeCode freeCode-lt) row
+      (λ i t. inside (firstBlock c g + i) (omega arith) (omega arith) ∙ sym (getD-replicate (g .blocks) i freeCode 0 (omega arith)))
+      (λ j out. outside j (λ t. omega (arith, out t))))
+
+  pub free-holds : (a : RamByte)
+      → let g = freeOf s ram a in
+      Holds (g .state) (g .ram) (booked (s .domain) (free a) (g .answer) gs) (noted s (free a) (g .answer) ks)
+  free-holds a = by (freeAnswer s ram a) refl
+    where
+      by : (x : Answer) → freeAnswer s ram a ≡ x
+          → let g = give x s ram s (setCodes (s .config .bot) ram (blockOf (s .config .bot) a) (replicate (blocksAt s ram a) freeCode)) in
+          Holds (g .state) (g .ram) (booked (s .domain) (free a) (g .answer) gs) (noted s (free a) (g .answer) ks)
+      by (Refused r) e = h
+      by (Done v) e =
+          let (t, _) = passed (freeRows s ram a) (Done (blocksAt s ram a)) v e in
+          free-keeps a (segment-at a (not-false _ (t .1 .1 .0)))
+
+  change-keeps : (a : RamByte) (d : ℕ) → d < trusted → SegmentAt s ram gs a
+      → Holds s (setCodes (s .config .bot) ram (blockOf (s .config .bot) a) (segmentCodes d (blocksAt s ram a))) (changed (a .0) d gs) ks
+  change-keeps a d m at =
+      let c : Config = s .config in
+      let g : Segment = at .segment in
+      let in-heap : InHeap c g = row-in-heap c (heapBlock c) gs (h .row) g (at .member) in
+      let vs : List ℕ = segmentCodes d (g .blocks) in
+      let len : length vs ≡ g .blocks = length-segmentCodes d (g .blocks) in
+      let (row, inside, outside) = change-row c (heapBlock c) d m gs (h .row) g (at .member) in
+      rw (at .count, ← (at .first), ← (at .address))
+      (write-codes s ram gs ks h (firstBlock c g) vs (changed (g .address) d gs) (in-heap .fromHeap) (omega (arith, in-heap .toSafe))
+      (segmentCodes-below d (g .blocks) (omega arith)) row
+      (λ i t. inside (firstBlock c g + i) (omega arith) (omega arith) ∙ code-segment c (madeOver g d) [] i (omega arith))
+      (λ j out. outside j (λ t. omega (arith, out t))))
+
+  pub change-holds : (a : RamByte) (d : ℕ)
+      → let g = changeOf s ram a d in
+      Holds (g .state) (g .ram) (booked (s .domain) (change a d) (g .answer) gs) (noted s (change a d) (g .answer) ks)
+  change-holds a d = by (changeAnswer s ram a d) refl
+    where
+      by : (x : Answer) → changeAnswer s ram a d ≡ x
+          → let g = give x s ram s (setCodes (s .config .bot) ram (blockOf (s .config .bot) a) (segmentCodes d (blocksAt s ram a))) in
+          Holds (g .state) (g .ram) (booked (s .domain) (change a d) (g .answer) gs) (noted s (change a d) (g .answer) ks)
+      by (Refused r) e = h
+      by (Done v) e =
+          let (t, _) = passed (changeRows s ram a d) (Done (blocksAt s ram a)) v e in
+          change-keeps a d (leb-false _ _ (t .1 .1 .1 .1 .0)) (segment-at a (not-false _ (t .1 .1 .0)))
