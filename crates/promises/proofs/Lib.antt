@@ -9,3 +9,4 @@ pub mod Holds
 pub mod Store
 pub mod Malloc
 pub mod Free
+pub mod Call
