@@ -10,3 +10,4 @@ pub mod Store
 pub mod Malloc
 pub mod Free
 pub mod Call
+pub mod Return
