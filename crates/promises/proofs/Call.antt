@@ -2,13 +2,14 @@
 -- Assumes nothing.
 use Prim.Native.Nat.{ℕ, zero, suc, _+_, _-_, _*_, _/_, _≤_, _<_}
 use mathlib.Core.Path.{_≡_, refl, sym, ap, _∙_}
+use mathlib.Core.Logic.{inr}
 use mathlib.Core.Bool.{Bool, true, false, not, cond, _&&_, _||_}
 use mathlib.Core.List.{List, [], _∷_, _++_}
 use native.Mathlib.Omega.{arith}
 use lib.ListN.{length, getD}
 use lib.Seq.{sets, slice, length-sets}
 use lib.Dec.{eqb, leb, ltb}
-use borrow.Author.Tests.{leb-false, ltb-false, not-false}
+use borrow.Author.Tests.{leb-false, ltb-true, ltb-false, not-false}
 use Rattle.rules.specs.declared.RamByte.{RamByte}
 use Rattle.rules.specs.declared.FlashWord.{FlashWord}
 use Rattle.rules.specs.declared.Config.{Config}
@@ -25,13 +26,13 @@ use Rattle.rules.specs.Answers.{give}
 use Rattle.rules.specs.Call.{frameBytes, frameOf, pointerOutside, isCross, callAnswer, called, callOf}
 use Rattle.laws.proofs.Tests.{byTest, neither}
 use Rattle.laws.proofs.Answers.{passed}
-use Rattle.laws.proofs.Parts.{getD-sets-before, sets-bytes, slice-pushed}
+use Rattle.laws.proofs.Parts.{getD-sets-before, getD-sets-after, sets-bytes, slice-pushed}
 use Rattle.laws.proofs.Frames.{Fits, frame-bytes}
 use Rattle.laws.proofs.Good.{GoodConfig, GoodState, safeBlock≤blocks, blocks≤places, site-fits}
 use Rattle.promises.specs.Operations.{Operation, call}
-use Rattle.promises.specs.Ledger.{Segment, booked}
-use Rattle.promises.specs.Calls.{Kind, local, cross, OpenCall, opened, noted, frameFor, framesOf}
-use Rattle.promises.proofs.Holds.{LeftBy, Link, Holds, same-code}
+use Rattle.promises.specs.Ledger.{Segment}
+use Rattle.promises.specs.Calls.{Kind, local, cross, OpenCall, opened, frameFor, framesOf}
+use Rattle.promises.proofs.Holds.{LeftBy, Link, Holds, Elsewhere, Kept, same-code}
 
 -- the table of call
 abbrev pub callRows : State → List ℕ → List ℕ → FlashWord → FlashWord → RamByte → List (Bool × Refusal)
@@ -63,6 +64,7 @@ module _ (s : State) (ram : List ℕ) (gs : List Segment) (ks : List OpenCall) (
       → s .config .top .0 - 1 ≤ b .0 → b .0 ≤ s .bound .0 → s .safepointer .0 + length vs ≤ s .config .top .0
       → Holds (record { config = s .config; domain = d; bound = b; safepointer = ramByte (s .safepointer .0 + length vs) })
       (sets ram (s .safepointer .0) vs) gs (k ∷ ks)
+      × Elsewhere (s .config) ram (sets ram (s .safepointer .0) vs)
   unfolding framesOf
   push-keeps kind site d b left e m from to fits =
       let c : Config = s .config in
@@ -72,46 +74,54 @@ module _ (s : State) (ram : List ℕ) (gs : List Segment) (ks : List OpenCall) (
       let same : (k : ℕ) → k < mapBytes c * perByte → codeOf (c .bot) (sets ram (s .safepointer .0) vs) k ≡ codeOf (c .bot) ram k =
       same-code c ram (sets ram (s .safepointer .0) vs)
       (λ x q. getD-sets-before ram (s .safepointer .0) vs x 0
-      (omega (arith, q .1, g .map≤heap, g .heap≤safe, h .good .safe≤safepointer))) in
-      record {
-        good =
+      (omega (arith, q .1, g .map≤heap, g .heap≤safe, h .good .safe≤safepointer))) in (
+        record {
+          good =
+              record {
+                config = g;
+                domain≤trusted = m;
+                top≤bound = from;
+                bound<ram = omega (arith, h .good .bound<ram);
+                safe≤safepointer = omega (arith, h .good .safe≤safepointer);
+                safepointer≤top = fits;
+              };
+          size = n ∙ h .size;
+          bytes = sets-bytes ram (s .safepointer .0) vs (h .bytes) (frame-bytes (frameFor kind (madeHere kind site)) (frame-fits kind site e));
+          row = h .row;
+          heap = λ k l u. same k (omega (arith, safeBlock≤blocks g, blocks≤places g)) ∙ h .heap k l u;
+          other = λ k l q. same k l ∙ h .other k l q;
+          frames =
+              slice-pushed (c .safe .0) (s .safepointer .0) ram vs (h .good .safe≤safepointer) (omega (arith, h .size, g .top≤ram))
+              ∙ ap (λ (xs : List ℕ). xs ++ vs) (h .frames);
+          chain = (
             record {
-              config = g;
-              domain≤trusted = m;
-              top≤bound = from;
-              bound<ram = omega (arith, h .good .bound<ram);
-              safe≤safepointer = omega (arith, h .good .safe≤safepointer);
-              safepointer≤top = fits;
-            };
-        size = n ∙ h .size;
-        bytes = sets-bytes ram (s .safepointer .0) vs (h .bytes) (frame-bytes (frameFor kind (madeHere kind site)) (frame-fits kind site e));
-        row = h .row;
-        heap = λ k l u. same k (omega (arith, safeBlock≤blocks g, blocks≤places g)) ∙ h .heap k l u;
-        other = λ k l q. same k l ∙ h .other k l q;
-        frames =
-            slice-pushed (c .safe .0) (s .safepointer .0) ram vs (h .good .safe≤safepointer) (omega (arith, h .size, g .top≤ram))
-            ∙ ap (λ (xs : List ℕ). xs ++ vs) (h .frames);
-        chain = (
-          record {
-            left = left;
-            site = e;
-            domain≤trusted = h .good .domain≤trusted;
-            bound≤ = to;
-            bound<ram = h .good .bound<ram;
-          },
-          h .chain,
-        );
-      }
+              left = left;
+              site = e;
+              domain≤trusted = h .good .domain≤trusted;
+              bound≤ = to;
+              bound<ram = h .good .bound<ram;
+            },
+            h .chain,
+          );
+        },
+        λ x out.
+            byTest (ltb x (s .safepointer .0))
+            (λ t. getD-sets-before ram (s .safepointer .0) vs x 0 (ltb-true _ _ t))
+            (λ t.
+            let l : s .safepointer .0 ≤ x = ltb-false x (s .safepointer .0) t in
+            getD-sets-after ram (s .safepointer .0) vs x 0
+            (byTest (ltb x (c .top .0))
+            (λ u. absurd (out (inr (omega (arith, h .good .safe≤safepointer), ltb-true _ _ u))))
+            (λ u. omega (arith, ltb-false x (c .top .0) u)))),
+      )
 
   pub call-holds : (table : List ℕ) (t site : FlashWord) (p : RamByte)
-      → let g = callOf s ram table t site p in
-      Holds (g .state) (g .ram) (booked (s .domain) (call table t site p) (g .answer) gs) (noted s (call table t site p) (g .answer) ks)
+      → Kept s gs ks (call table t site p) ram (callOf s ram table t site p)
   call-holds table t site p = by (callAnswer s ram table t site p) refl
     where
       by : (x : Answer) → callAnswer s ram table t site p ≡ x
-          → let g = give x s ram (called s t site p) (sets ram (s .safepointer .0) (frameBytes (frameOf s t site))) in
-          Holds (g .state) (g .ram) (booked (s .domain) (call table t site p) (g .answer) gs) (noted s (call table t site p) (g .answer) ks)
-      by (Refused r) e = h
+          → Kept s gs ks (call table t site p) ram (give x s ram (called s t site p) (sets ram (s .safepointer .0) (frameBytes (frameOf s t site))))
+      by (Refused r) e = (h, λ x out. refl)
       by (Done v) e =
           let (n, _) =
           passed (callRows s ram table t site p) (Done (cond (isLocal (s .config) t) (t .0) (entryOf (s .config) table t .0))) v e in

@@ -27,12 +27,12 @@ use Rattle.laws.proofs.Blocks.{block-le, block-lt}
 use Rattle.laws.proofs.Codes.{freeCode-lt, length-segmentCodes, segmentCodes-below}
 use Rattle.laws.proofs.Good.{GoodConfig, bot<heap}
 use Rattle.promises.specs.Operations.{Operation, free, change}
-use Rattle.promises.specs.Ledger.{Segment, struck, madeOver, changed, booked, firstBlock, endBlock, InHeap, codeBy}
-use Rattle.promises.specs.Calls.{OpenCall, noted}
+use Rattle.promises.specs.Ledger.{Segment, struck, madeOver, changed, firstBlock, endBlock, InHeap, codeBy}
+use Rattle.promises.specs.Calls.{OpenCall}
 use Rattle.promises.specs.Promise.{_∈_}
 use Rattle.promises.proofs.Row.{row-in-heap, holder, strike-row, change-row, code-segment}
 use Rattle.promises.proofs.Shown.{member-blocks, member-owner}
-use Rattle.promises.proofs.Holds.{Holds, write-codes}
+use Rattle.promises.proofs.Holds.{Holds, Elsewhere, Kept, write-codes}
 
 -- the tables of free and change
 abbrev pub freeRows : State → List ℕ → RamByte → List (Bool × Refusal)
@@ -104,6 +104,7 @@ module _ (s : State) (ram : List ℕ) (gs : List Segment) (ks : List OpenCall) (
 
   free-keeps : (a : RamByte) → SegmentAt s ram gs a
       → Holds s (setCodes (s .config .bot) ram (blockOf (s .config .bot) a) (replicate (blocksAt s ram a) freeCode)) (struck (a .0) gs) ks
+      × Elsewhere (s .config) ram (setCodes (s .config .bot) ram (blockOf (s .config .bot) a) (replicate (blocksAt s ram a) freeCode))
   free-keeps a at =
       let c : Config = s .config in
       let g : Segment = at .segment in
@@ -118,20 +119,19 @@ module _ (s : State) (ram : List ℕ) (gs : List Segment) (ks : List OpenCall) (
       (λ j out. outside j (λ t. omega (arith, out t))))
 
   pub free-holds : (a : RamByte)
-      → let g = freeOf s ram a in
-      Holds (g .state) (g .ram) (booked (s .domain) (free a) (g .answer) gs) (noted s (free a) (g .answer) ks)
+      → Kept s gs ks (free a) ram (freeOf s ram a)
   free-holds a = by (freeAnswer s ram a) refl
     where
       by : (x : Answer) → freeAnswer s ram a ≡ x
-          → let g = give x s ram s (setCodes (s .config .bot) ram (blockOf (s .config .bot) a) (replicate (blocksAt s ram a) freeCode)) in
-          Holds (g .state) (g .ram) (booked (s .domain) (free a) (g .answer) gs) (noted s (free a) (g .answer) ks)
-      by (Refused r) e = h
+          → Kept s gs ks (free a) ram (give x s ram s (setCodes (s .config .bot) ram (blockOf (s .config .bot) a) (replicate (blocksAt s ram a) freeCode)))
+      by (Refused r) e = (h, λ x out. refl)
       by (Done v) e =
           let (t, _) = passed (freeRows s ram a) (Done (blocksAt s ram a)) v e in
           free-keeps a (segment-at a (not-false _ (t .1 .1 .0)))
 
   change-keeps : (a : RamByte) (d : ℕ) → d < trusted → SegmentAt s ram gs a
       → Holds s (setCodes (s .config .bot) ram (blockOf (s .config .bot) a) (segmentCodes d (blocksAt s ram a))) (changed (a .0) d gs) ks
+      × Elsewhere (s .config) ram (setCodes (s .config .bot) ram (blockOf (s .config .bot) a) (segmentCodes d (blocksAt s ram a)))
   change-keeps a d m at =
       let c : Config = s .config in
       let g : Segment = at .segment in
@@ -146,14 +146,12 @@ module _ (s : State) (ram : List ℕ) (gs : List Segment) (ks : List OpenCall) (
       (λ j out. outside j (λ t. omega (arith, out t))))
 
   pub change-holds : (a : RamByte) (d : ℕ)
-      → let g = changeOf s ram a d in
-      Holds (g .state) (g .ram) (booked (s .domain) (change a d) (g .answer) gs) (noted s (change a d) (g .answer) ks)
+      → Kept s gs ks (change a d) ram (changeOf s ram a d)
   change-holds a d = by (changeAnswer s ram a d) refl
     where
       by : (x : Answer) → changeAnswer s ram a d ≡ x
-          → let g = give x s ram s (setCodes (s .config .bot) ram (blockOf (s .config .bot) a) (segmentCodes d (blocksAt s ram a))) in
-          Holds (g .state) (g .ram) (booked (s .domain) (change a d) (g .answer) gs) (noted s (change a d) (g .answer) ks)
-      by (Refused r) e = h
+          → Kept s gs ks (change a d) ram (give x s ram s (setCodes (s .config .bot) ram (blockOf (s .config .bot) a) (segmentCodes d (blocksAt s ram a))))
+      by (Refused r) e = (h, λ x out. refl)
       by (Done v) e =
           let (t, _) = passed (changeRows s ram a d) (Done (blocksAt s ram a)) v e in
           change-keeps a d (leb-false _ _ (t .1 .1 .1 .1 .0)) (segment-at a (not-false _ (t .1 .1 .0)))

@@ -27,10 +27,10 @@ use Rattle.laws.proofs.Blocks.{block-start, blocksFor-pos}
 use Rattle.laws.proofs.Codes.{length-segmentCodes, segmentCodes-below}
 use Rattle.laws.proofs.Search.{found, found-in-heap, free-run-at, free-block}
 use Rattle.promises.specs.Operations.{Operation, malloc}
-use Rattle.promises.specs.Ledger.{Segment, entered, booked, firstBlock, endBlock, InHeap, codeBy}
-use Rattle.promises.specs.Calls.{OpenCall, noted}
+use Rattle.promises.specs.Ledger.{Segment, entered, firstBlock, endBlock, InHeap, codeBy}
+use Rattle.promises.specs.Calls.{OpenCall}
 use Rattle.promises.proofs.Row.{enter-row, code-segment, code-past}
-use Rattle.promises.proofs.Holds.{Holds, write-codes}
+use Rattle.promises.proofs.Holds.{Holds, Elsewhere, Kept, write-codes}
 
 -- the table of malloc
 abbrev pub mallocRows : State → List ℕ → ℕ → List (Bool × Refusal)
@@ -51,6 +51,7 @@ module _ (s : State) (ram : List ℕ) (gs : List Segment) (ks : List OpenCall) (
   taken-keeps : (n : ℕ) (b : Block) → 0 < n → s .domain < trusted → lowestRun (s .config) ram n ≡ At b
       → Holds s (setCodes (s .config .bot) ram (b .0) (segmentCodes (s .domain) n))
       (entered (record { address = startOf (s .config .bot) (b .0); blocks = n; owner = s .domain }) gs) ks
+      × Elsewhere (s .config) ram (setCodes (s .config .bot) ram (b .0) (segmentCodes (s .domain) n))
   taken-keeps n b p m e =
       let c : Config = s .config in
       let g : Segment = record { address = startOf (c .bot) (b .0); blocks = n; owner = s .domain } in
@@ -66,7 +67,7 @@ module _ (s : State) (ram : List ℕ) (gs : List Segment) (ks : List OpenCall) (
       (λ k f t.
       let (_, _, free) = free-block c ram k (free-run-at c ram n (b .0) run k (omega arith) (omega arith)) in
       sym (h .heap k (omega arith) (omega arith)) ∙ free) in
-      subst (λ (k : ℕ). Holds s (setCodes (c .bot) ram k vs) (entered g gs) ks) q
+      subst (λ (k : ℕ). Holds s (setCodes (c .bot) ram k vs) (entered g gs) ks × Elsewhere c ram (setCodes (c .bot) ram k vs)) q
       (write-codes s ram gs ks h (firstBlock c g) vs (entered g gs) (omega arith) (omega arith)
       (segmentCodes-below (s .domain) n (omega arith)) row
       (λ i t. codes (firstBlock c g + i) ∙ code-segment c g gs i (omega arith))
@@ -76,18 +77,18 @@ module _ (s : State) (ram : List ℕ) (gs : List Segment) (ks : List OpenCall) (
   answered : (n v : ℕ) (b : Block) → lowestRun (s .config) ram n ≡ At b → startOf (s .config .bot) (b .0) ≡ v
       → Holds s (setCodes (s .config .bot) ram (b .0) (segmentCodes (s .domain) n))
       (entered (record { address = startOf (s .config .bot) (b .0); blocks = n; owner = s .domain }) gs) ks
+      × Elsewhere (s .config) ram (setCodes (s .config .bot) ram (b .0) (segmentCodes (s .domain) n))
       → Holds s (taken s ram n (lowestRun (s .config) ram n)) (entered (record { address = v; blocks = n; owner = s .domain }) gs) ks
+      × Elsewhere (s .config) ram (taken s ram n (lowestRun (s .config) ram n))
   answered n v b q w k = rw (q, ← w) k
 
   pub malloc-holds : (size : ℕ)
-      → let g = mallocOf s ram size in
-      Holds (g .state) (g .ram) (booked (s .domain) (malloc size) (g .answer) gs) (noted s (malloc size) (g .answer) ks)
+      → Kept s gs ks (malloc size) ram (mallocOf s ram size)
   malloc-holds size = by (mallocAnswer s ram size) refl
     where
       by : (x : Answer) → mallocAnswer s ram size ≡ x
-          → let g = give x s ram s (taken s ram (blocksFor size) (lowestRun (s .config) ram (blocksFor size))) in
-          Holds (g .state) (g .ram) (booked (s .domain) (malloc size) (g .answer) gs) (noted s (malloc size) (g .answer) ks)
-      by (Refused r) e = h
+          → Kept s gs ks (malloc size) ram (give x s ram s (taken s ram (blocksFor size) (lowestRun (s .config) ram (blocksFor size))))
+      by (Refused r) e = (h, λ x out. refl)
       by (Done v) e =
           let n : ℕ = blocksFor size in
           let (t, last) = passed (mallocRows s ram size) (Done (addressOf (s .config) (lowestRun (s .config) ram n))) v e in

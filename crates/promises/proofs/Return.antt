@@ -28,14 +28,11 @@ use Rattle.laws.proofs.Parts.{slice-as}
 use Rattle.laws.proofs.Frames.{IsFrame, readFrame-back}
 use Rattle.laws.proofs.Good.{GoodState, goodState-true}
 use Rattle.promises.specs.Operations.{Operation, return}
-use Rattle.promises.specs.Ledger.{Segment, booked}
-use Rattle.promises.specs.Calls.{Kind, local, cross, OpenCall, noted, frameFor, framesOf, Returns}
-use Rattle.promises.proofs.Holds.{LeftBy, Link, Holds}
+use Rattle.promises.specs.Ledger.{Segment}
+use Rattle.promises.specs.Calls.{Kind, local, cross, OpenCall, frameFor, framesOf, Returns}
+use Rattle.promises.proofs.Holds.{LeftBy, Link, Holds, Kept}
 
--- the table of return, up to the safe pointer
-abbrev emptyRows : State → List ℕ → List (Bool × Refusal)
-emptyRows s ram = (not (eqb (length ram) ramBytes), WrongSize) ∷ (not (goodState s), BadState) ∷ []
-
+-- the table of return
 abbrev frameRows : State → List ℕ → List (Bool × Refusal)
 frameRows s ram =
     (not (eqb (length ram) ramBytes), WrongSize)
@@ -165,7 +162,6 @@ return-gives s ram gs (k ∷ ks) h =
     (refl, ap (λ (t : State). t .domain) (returns-state s ram gs k ks h), ap (λ (t : State). t .bound) (returns-state s ram gs k ks h))
 
 pub return-holds : (s : State) (ram : List ℕ) (gs : List Segment) (ks : List OpenCall) → Holds s ram gs ks
-    → let g = returnOf s ram in
-    Holds (g .state) (g .ram) (booked (s .domain) return (g .answer) gs) (noted s return (g .answer) ks)
-return-holds s ram gs [] h = rw (no-frame s ram gs h) h
-return-holds s ram gs (k ∷ ks) h = rw (returns-site s ram gs k ks h, returns-state s ram gs k ks h) (pop-keeps s ram gs k ks h)
+    → Kept s gs ks return ram (returnOf s ram)
+return-holds s ram gs [] h = rw (no-frame s ram gs h) (h, λ x out. refl)
+return-holds s ram gs (k ∷ ks) h = rw (returns-site s ram gs k ks h, returns-state s ram gs k ks h) (pop-keeps s ram gs k ks h, λ x out. refl)

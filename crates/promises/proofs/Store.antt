@@ -29,9 +29,9 @@ use Rattle.laws.proofs.Parts.{set-bytes}
 use Rattle.laws.proofs.Good.{GoodConfig, GoodState, heap-start, safeBlock≤blocks, blocks≤places}
 use Rattle.promises.specs.Operations.{Operation, store}
 use Rattle.promises.specs.History.{InMap, InSafeStack}
-use Rattle.promises.specs.Ledger.{Segment, booked}
-use Rattle.promises.specs.Calls.{OpenCall, noted}
-use Rattle.promises.proofs.Holds.{Holds, same-code, same-slice}
+use Rattle.promises.specs.Ledger.{Segment}
+use Rattle.promises.specs.Calls.{OpenCall}
+use Rattle.promises.proofs.Holds.{Holds, After, same-code, same-slice}
 
 -- a store of a module that is carried out: in its own block, or on the stack up to the bound
 pub record OwnStore (s : State) (ram : List ℕ) (a : RamByte) : Type 0 where
@@ -140,13 +140,11 @@ module _ (s : State) (ram : List ℕ) (gs : List Segment) (ks : List OpenCall) (
 
   pub store-holds : (a : RamByte) (b : ℕ) → b < 256
       → (storeOf s ram a b .answer ≡ Done 0 → s .domain ≡ trusted → InMap (s .config) (a .0) ⊎ InSafeStack (s .config) (a .0) → ⊥)
-      → let g = storeOf s ram a b in
-      Holds (g .state) (g .ram) (booked (s .domain) (store a b) (g .answer) gs) (noted s (store a b) (g .answer) ks)
+      → After s gs ks (store a b) (storeOf s ram a b)
   store-holds a b byte premise = by (storeAnswer s ram a) refl
     where
       by : (x : Answer) → storeAnswer s ram a ≡ x
-          → let g = give x s ram s (set ram (a .0) b) in
-          Holds (g .state) (g .ram) (booked (s .domain) (store a b) (g .answer) gs) (noted s (store a b) (g .answer) ks)
+          → After s gs ks (store a b) (give x s ram s (set ram (a .0) b))
       by (Refused r) e = h
       by (Done v) e =
           let (n, last) = passed (storeRows s ram a) (Done 0) v e in
