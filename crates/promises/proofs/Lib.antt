@@ -11,3 +11,5 @@ pub mod Malloc
 pub mod Free
 pub mod Call
 pub mod Return
+pub mod SetUp
+pub mod Steps
