@@ -13,3 +13,5 @@ pub mod Call
 pub mod Return
 pub mod SetUp
 pub mod Steps
+pub mod Change
+pub mod Theorem

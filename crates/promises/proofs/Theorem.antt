@@ -1,0 +1,43 @@
+-- Demand 3: every history that is as assumed has what is promised.
+-- Assumes nothing.
+use Prim.Native.Nat.{ℕ}
+use mathlib.Core.Path.{_≡_, refl, sym, ap, _∙_, subst}
+use mathlib.Core.List.{List}
+use Rattle.rules.specs.declared.Config.{Config}
+use Rattle.rules.specs.Memory.{trusted}
+use Rattle.laws.proofs.Good.{goodState-true, heapBlock≤safeBlock}
+use Rattle.promises.specs.Operations.{Operation}
+use Rattle.promises.specs.History.{History, _then_, stateOf, ramOf, configOf, byteAt, StoredBy, Assumed, Stretch}
+use Rattle.promises.specs.Ledger.{Segment, ledger}
+use Rattle.promises.specs.Calls.{OpenCall, openCalls}
+use Rattle.promises.specs.Promise.{_∈_, Promise, StoredByHolder}
+use Rattle.promises.proofs.Row.{row-apart, row-in-heap}
+use Rattle.promises.proofs.Shown.{row-shown}
+use Rattle.promises.proofs.Return.{return-gives}
+use Rattle.promises.proofs.Steps.{always}
+use Rattle.promises.proofs.Change.{segment-step, stack-step, stretch-same, unchanged}
+
+pub promise : (h : History) → Assumed h → Promise h
+promise h a =
+    let (e, i) = always h a in
+    record {
+      mapShows = rw (← e) (row-shown (stateOf h .config) (ramOf h) (ledger h) (heapBlock≤safeBlock (i .good .config)) (i .row) (i .heap));
+      heapCodes = rw (← e) (i .heap);
+      otherCodes = rw (← e) (i .other);
+      apart = rw (← e) (row-apart (stateOf h .config) _ (ledger h) (i .row));
+      inHeap = rw (← e) (row-in-heap (stateOf h .config) _ (ledger h) (i .row));
+      safeStack = rw (← e) (i .frames);
+      returns = return-gives (stateOf h) (ramOf h) (ledger h) (openCalls h) i;
+      segmentStep = segment-step h i;
+      segmentStretch = λ g x q from.
+          stretch-same (λ l o. (g ∈ ledger l) × (StoredByHolder g x l o → ⊥)) x from
+          (λ l o b p. unchanged _ _ (segment-step l (always l b .1) g (p .0) x q o) (p .1)) a;
+      stackStep = stack-step h i;
+      stackStretch = λ k x q from.
+          stretch-same (λ l o. (k ∈ openCalls l) × (StoredBy l o x trusted → ⊥)) x from
+          (λ l o b p. unchanged _ _ (stack-step l (always l b .1) k (p .0) x q o) (p .1)) a;
+      sameConfig = e;
+      good = goodState-true (stateOf h) (i .good);
+      size = i .size;
+      bytes = i .bytes;
+    }
