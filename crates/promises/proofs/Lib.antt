@@ -14,4 +14,5 @@ pub mod Return
 pub mod SetUp
 pub mod Steps
 pub mod Change
+pub mod Keeping
 pub mod Theorem

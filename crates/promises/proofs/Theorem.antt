@@ -15,6 +15,7 @@ use Rattle.promises.proofs.Row.{row-apart, row-in-heap}
 use Rattle.promises.proofs.Shown.{row-shown}
 use Rattle.promises.proofs.Return.{return-gives}
 use Rattle.promises.proofs.Steps.{always}
+use Rattle.promises.proofs.Keeping.{segment-stays}
 use Rattle.promises.proofs.Change.{segment-step, stack-step, stretch-same, unchanged}
 
 pub promise : (h : History) → Assumed h → Promise h
@@ -26,6 +27,7 @@ promise h a =
       otherCodes = rw (← e) (i .other);
       apart = rw (← e) (row-apart (stateOf h .config) _ (ledger h) (i .row));
       inHeap = rw (← e) (row-in-heap (stateOf h .config) _ (ledger h) (i .row));
+      stays = segment-stays h i;
       safeStack = rw (← e) (i .frames);
       returns = return-gives (stateOf h) (ramOf h) (ledger h) (openCalls h) i;
       segmentStep = segment-step h i;

@@ -14,7 +14,7 @@ use Rattle.rules.specs.State.{goodState}
 use Rattle.rules.specs.SetUp.{setUpCode}
 use Rattle.rules.specs.Return.{returnOf}
 use Rattle.promises.specs.Operations.{Operation}
-use Rattle.promises.specs.History.{History, _then_, stateOf, ramOf, configOf, byteAt, StoredBy, Bytes, Stretch}
+use Rattle.promises.specs.History.{History, _then_, stateOf, ramOf, configOf, domainOf, byteAt, StoredBy, Bytes, Stretch}
 use Rattle.promises.specs.Ledger.{Segment, ledger, InSegment, InHeap, Apart, codeBy, shown}
 use Rattle.promises.specs.Calls.{OpenCall, cross, openCalls, framesOf, Returns}
 
@@ -44,6 +44,8 @@ pub record Promise (h : History) : Type 0 where
   pub apart : Apart (configOf h) (heapBlock (configOf h)) (ledger h)
   -- each lies in the heap, none is empty, owners are 0 to 6
   pub inHeap : (g : Segment) → g ∈ ledger h → InHeap (configOf h) g
+  -- only its own domain gives a segment up: while another is current it stays, whatever is asked
+  pub stays : (g : Segment) → g ∈ ledger h → domainOf h ≢ g .owner → (o : Operation) → g ∈ ledger (h then o)
   -- "the safe stack holds exactly the open calls, oldest first"
   pub safeStack : slice (configOf h .safe .0) (stateOf h .safepointer .0) (ramOf h) ≡ framesOf (openCalls h)
   -- "a return is refused only when there are none, and otherwise restores its own call's address, domain and bound"
