@@ -53,13 +53,13 @@ changeRows s ram a d =
     ∷ []
 
 -- where a segment starts in the heap
-record StartAt (c : Config) (ram : List ℕ) (a : RamByte) : Type 0 where
-  fromHeap : heapBlock c ≤ blockOf (c .bot) a
-  toSafe : blockOf (c .bot) a < safeBlock c
-  atBlock : startOf (c .bot) (blockOf (c .bot) a) ≡ a .0
-  starts : startsSegment (codeOf (c .bot) ram (blockOf (c .bot) a)) ≡ true
+pub record StartAt (c : Config) (ram : List ℕ) (a : RamByte) : Type 0 where
+  pub fromHeap : heapBlock c ≤ blockOf (c .bot) a
+  pub toSafe : blockOf (c .bot) a < safeBlock c
+  pub atBlock : startOf (c .bot) (blockOf (c .bot) a) ≡ a .0
+  pub starts : startsSegment (codeOf (c .bot) ram (blockOf (c .bot) a)) ≡ true
 
-start-at : (c : Config) (ram : List ℕ) (a : RamByte) → GoodConfig c → isSegment c ram a ≡ true → StartAt c ram a
+pub start-at : (c : Config) (ram : List ℕ) (a : RamByte) → GoodConfig c → isSegment c ram a ≡ true → StartAt c ram a
 unfolding heapBlock safeBlock
 start-at c ram a g t =
     let (from, (to, (at, starts))) =

@@ -16,3 +16,6 @@ pub mod Steps
 pub mod Change
 pub mod Keeping
 pub mod Theorem
+-- demand 2 and section 10
+pub mod Room
+pub mod Uniqueness

@@ -5,6 +5,10 @@ pub mod History
 pub mod Ledger
 pub mod Calls
 pub mod Promise
+pub mod Incident
+-- demand 2 and section 10
+pub mod Room
+pub mod Uniqueness
 -- section 8
 pub mod Sample
 pub mod Limits
