@@ -61,6 +61,15 @@ chain-bound c d b (j ∷ js) r k (inl q) p e =
 chain-bound c d b (j ∷ js) r k (inr m) p e =
     omega (arith, r .0 .bound≤, chain-bound c (j .domain) (j .bound) js (r .1) k m p e)
 
+-- a store by domain d is made while d is current
+pub stored-domain : (h : History) (o : Operation) (x d : ℕ) → StoredBy h o x d → domainOf h ≡ d
+stored-domain h (store a b) x d w = w .2
+stored-domain h (call table t site p) x d w = absurd w
+stored-domain h return x d w = absurd w
+stored-domain h (malloc size) x d w = absurd w
+stored-domain h (free a) x d w = absurd w
+stored-domain h (change a e) x d w = absurd w
+
 module _ (h : History) (i : Holds (stateOf h) (ramOf h) (ledger h) (openCalls h)) where
   touched : (o : Operation) (x : ℕ) → (InMap (stateOf h .config) x ⊎ InSafeStack (stateOf h .config) x → ⊥)
       → byteAt (h then o) x ≢ byteAt h x → StoredBy h o x (domainOf h)
@@ -96,7 +105,7 @@ module _ (h : History) (i : Holds (stateOf h) (ramOf h) (ledger h) (openCalls h)
             (omega (arith, u .atBlock, q .1, start-add (c .bot) (firstBlock c g) (g .blocks))),
       )
 
-  segment-owner : (g : Segment) → g ∈ ledger h → (a : RamByte) → InSegment g (a .0) → ownerAt (stateOf h) (ramOf h) a ≡ g .owner
+  pub segment-owner : (g : Segment) → g ∈ ledger h → (a : RamByte) → InSegment g (a .0) → ownerAt (stateOf h) (ramOf h) a ≡ g .owner
   segment-owner g m a q =
       let c : Config = stateOf h .config in
       let k : ℕ = blockOf (c .bot) a in
@@ -109,7 +118,7 @@ module _ (h : History) (i : Holds (stateOf h) (ramOf h) (ledger h) (openCalls h)
             ap ownerOf (member-later c (ramOf h) (heapBlock c) (ledger h) (i .row) (i .heap) g m k (omega arith) u) ∙ ownerOf-later (g .owner)
       ]
 
-  segment-place : (g : Segment) → g ∈ ledger h → (a : RamByte) → InSegment g (a .0)
+  pub segment-place : (g : Segment) → g ∈ ledger h → (a : RamByte) → InSegment g (a .0)
       → (stateOf h .config .heap .0 ≤ a .0) × (a .0 < stateOf h .config .safe .0)
   segment-place g m a q =
       let c : Config = stateOf h .config in

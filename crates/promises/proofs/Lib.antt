@@ -16,6 +16,7 @@ pub mod Steps
 pub mod Change
 pub mod Keeping
 pub mod Theorem
+pub mod Incident
 -- demand 2 and section 10
 pub mod Room
 pub mod Uniqueness
