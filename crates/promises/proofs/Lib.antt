@@ -17,6 +17,7 @@ pub mod Change
 pub mod Keeping
 pub mod Theorem
 pub mod Incident
+pub mod Instance
 -- demand 2 and section 10
 pub mod Room
 pub mod Uniqueness

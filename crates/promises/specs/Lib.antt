@@ -12,3 +12,4 @@ pub mod Uniqueness
 -- section 8
 pub mod Sample
 pub mod Limits
+pub mod Instance
