@@ -1,25 +1,24 @@
 -- A call keeps the invariant: its frame stands behind those of the calls that were open.
 -- Assumes nothing.
-use Prim.Native.Nat.{ℕ, zero, suc, _+_, _-_, _*_, _/_, _≤_, _<_}
-use mathlib.Core.Path.{_≡_, refl, sym, ap, _∙_}
+use Prim.Native.Nat.{ℕ, _+_, _-_, _*_, _≤_, _<_}
+use mathlib.Core.Path.{_≡_, refl, ap, _∙_}
 use mathlib.Core.Logic.{inr}
 use mathlib.Core.Bool.{Bool, true, false, not, cond, _&&_, _||_}
 use mathlib.Core.List.{List, [], _∷_, _++_}
 use native.Mathlib.Omega.{arith}
-use lib.ListN.{length, getD}
-use lib.Seq.{sets, slice, length-sets}
+use lib.ListN.{length}
+use lib.Seq.{sets, length-sets}
 use lib.Dec.{eqb, leb, ltb}
 use borrow.Author.Tests.{leb-false, ltb-true, ltb-false, not-false}
 use Rattle.rules.specs.declared.RamByte.{RamByte}
 use Rattle.rules.specs.declared.FlashWord.{FlashWord}
 use Rattle.rules.specs.declared.Config.{Config}
 use Rattle.rules.specs.declared.State.{State}
-use Rattle.rules.specs.declared.Frame.{Frame}
 use Rattle.rules.specs.declared.Answer.{Answer}
 use Rattle.rules.specs.declared.Answer.the-variants.{Done, Refused}
 use Rattle.rules.specs.declared.Refusal.{Refusal}
 use Rattle.rules.specs.declared.Refusal.the-variants.{WrongSize, BadState, SiteOutside, TargetOutside, PastTables, BadEntry, PointerOutside, PassesTop}
-use Rattle.rules.specs.Memory.{ramBytes, heapBlock, safeBlock, perByte, mapBytes, codeOf, trusted}
+use Rattle.rules.specs.Memory.{ramBytes, perByte, mapBytes, codeOf, trusted}
 use Rattle.rules.specs.Code.{tableWords, rangeOf, inRange, isLocal, tableWord, calledDomain, entryOf, goodEntry, goodSite}
 use Rattle.rules.specs.State.{goodState, ramByte}
 use Rattle.rules.specs.Answers.{give}
@@ -28,11 +27,11 @@ use Rattle.laws.proofs.Tests.{byTest, neither}
 use Rattle.laws.proofs.Answers.{passed}
 use Rattle.laws.proofs.Parts.{getD-sets-before, getD-sets-after, sets-bytes, slice-pushed}
 use Rattle.laws.proofs.Frames.{Fits, frame-bytes}
-use Rattle.laws.proofs.Good.{GoodConfig, GoodState, safeBlock≤blocks, blocks≤places, site-fits}
-use Rattle.promises.specs.Operations.{Operation, call}
+use Rattle.laws.proofs.Good.{GoodConfig, safeBlock≤blocks, blocks≤places, site-fits}
+use Rattle.promises.specs.Operations.{call}
 use Rattle.promises.specs.Ledger.{Segment}
-use Rattle.promises.specs.Calls.{Kind, local, cross, OpenCall, opened, frameFor, framesOf}
-use Rattle.promises.proofs.Holds.{LeftBy, Link, Holds, Elsewhere, Kept, same-code}
+use Rattle.promises.specs.Calls.{Kind, local, cross, OpenCall, frameFor, framesOf}
+use Rattle.promises.proofs.Holds.{LeftBy, Holds, Elsewhere, Kept, same-code}
 
 -- the table of call
 abbrev pub callRows : State → List ℕ → List ℕ → FlashWord → FlashWord → RamByte → List (Bool × Refusal)

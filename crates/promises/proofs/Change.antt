@@ -1,7 +1,7 @@
 -- Which bytes an operation may change, and who is then current: bytes of a segment, and bytes of the stack above the pointer of an open
 -- cross-domain call; for one operation, and for a stretch of a history.
 -- Assumes nothing.
-use Prim.Native.Nat.{ℕ, zero, suc, _+_, _-_, _*_, _≤_, _<_}
+use Prim.Native.Nat.{ℕ, _≤_, _<_}
 use mathlib.Core.Path.{_≡_, refl, sym, ap, _∙_, subst}
 use mathlib.Core.Logic.{_⊎_, inl, inr, ⊎-elim, _≢_}
 use mathlib.Core.List.{List, [], _∷_}
@@ -14,14 +14,14 @@ use Rattle.rules.specs.declared.Config.{Config}
 use Rattle.rules.specs.declared.State.{State}
 use Rattle.rules.specs.declared.Answer.{Answer}
 use Rattle.rules.specs.declared.Answer.the-variants.{Done, Refused}
-use Rattle.rules.specs.Memory.{ramBytes, startOf, blockOf, heapBlock, safeBlock, codeOf, ownerOf, trusted}
+use Rattle.rules.specs.Memory.{blockOf, heapBlock, codeOf, ownerOf, trusted}
 use Rattle.rules.specs.State.{ramByte}
-use Rattle.rules.specs.Answers.{Given, give}
+use Rattle.rules.specs.Answers.{give}
 use Rattle.rules.specs.Store.{ownerAt, storeAnswer, storeOf}
 use Rattle.laws.proofs.Answers.{passed, give-answer}
 use Rattle.laws.proofs.Blocks.{start-add, start-from, block-from, block-before}
 use Rattle.laws.proofs.Codes.{ownerOf-later}
-use Rattle.laws.proofs.Good.{GoodConfig, GoodState}
+use Rattle.laws.proofs.Good.{GoodConfig}
 use Rattle.promises.specs.Operations.{Operation, store, call, return, malloc, free, change}
 use Rattle.promises.specs.History.{History, _then_, after, stateOf, ramOf, domainOf, byteAt, StoredBy, InMap, InSafeStack, Assumed, Stretch, none, next}
 use Rattle.promises.specs.Ledger.{Segment, ledger, firstBlock, endBlock, InSegment, InHeap}

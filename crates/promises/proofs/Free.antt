@@ -1,11 +1,11 @@
 -- Free and change of owner keep the invariant: the segment that the map shows at the address is one of the ledger's.
 -- Assumes nothing.
-use Prim.Native.Nat.{ℕ, zero, suc, _+_, _-_, _≤_, _<_}
+use Prim.Native.Nat.{ℕ, _+_, _≤_, _<_}
 use mathlib.Core.Path.{_≡_, refl, sym, ap, _∙_}
-use mathlib.Core.Bool.{Bool, true, false, not}
-use mathlib.Core.List.{List, [], _∷_}
+use mathlib.Core.Bool.{Bool, true, not}
+use mathlib.Core.List.{List, [], _∷_, _++_}
 use native.Mathlib.Omega.{arith}
-use lib.ListN.{length, replicate, length-replicate, getD-replicate}
+use lib.ListN.{length, getD, replicate, length-replicate, getD-replicate}
 use lib.Dec.{eqb, leb, ltb}
 use borrow.Author.Tests.{leb-true, leb-false, ltb-true, eqb-true, not-false}
 use Rattle.rules.specs.declared.RamByte.{RamByte}
@@ -22,15 +22,15 @@ use Rattle.rules.specs.Store.{ownerAt}
 use Rattle.rules.specs.Free.{isSegment, segmentBlocks, blocksAt, freeAnswer, freeOf, changeAnswer, changeOf}
 use Rattle.laws.proofs.Tests.{each}
 use Rattle.laws.proofs.Answers.{passed}
-use Rattle.laws.proofs.AllBelow.{all-replicate}
+use Rattle.laws.proofs.AllBelow.{AllBelow, all-replicate}
 use Rattle.laws.proofs.Blocks.{block-le, block-lt}
 use Rattle.laws.proofs.Codes.{freeCode-lt, length-segmentCodes, segmentCodes-below}
 use Rattle.laws.proofs.Good.{GoodConfig, bot<heap}
-use Rattle.promises.specs.Operations.{Operation, free, change}
-use Rattle.promises.specs.Ledger.{Segment, struck, madeOver, changed, firstBlock, endBlock, InHeap, codeBy}
+use Rattle.promises.specs.Operations.{free, change}
+use Rattle.promises.specs.Ledger.{Segment, replacedAt, struck, madeOver, firstBlock, InHeap, codeBy}
 use Rattle.promises.specs.Calls.{OpenCall}
 use Rattle.promises.specs.Promise.{_∈_}
-use Rattle.promises.proofs.Row.{row-in-heap, holder, strike-row, change-row, code-segment}
+use Rattle.promises.proofs.Row.{row-in-heap, holder, InPlaceOf, struck-place, over-place, replace-row, code-none, code-segment}
 use Rattle.promises.proofs.Shown.{member-blocks, member-owner}
 use Rattle.promises.proofs.Holds.{Holds, Elsewhere, Kept, write-codes}
 
@@ -44,13 +44,7 @@ freeRows s ram a =
     ∷ []
 
 abbrev pub changeRows : State → List ℕ → RamByte → ℕ → List (Bool × Refusal)
-changeRows s ram a d =
-    (not (eqb (length ram) ramBytes), WrongSize)
-    ∷ (not (goodState s), BadState)
-    ∷ (not (isSegment (s .config) ram a), NoSegment)
-    ∷ (not (eqb (ownerAt s ram a) (s .domain)), NotOwner)
-    ∷ (leb trusted d, DomainAbove)
-    ∷ []
+changeRows s ram a d = freeRows s ram a ++ (leb trusted d, DomainAbove) ∷ []
 
 -- where a segment starts in the heap
 pub record StartAt (c : Config) (ram : List ℕ) (a : RamByte) : Type 0 where
@@ -102,20 +96,23 @@ module _ (s : State) (ram : List ℕ) (gs : List Segment) (ks : List OpenCall) (
         owner = ap (λ (k : ℕ). ownerOf (codeOf (c .bot) ram k)) (sym e) ∙ member-owner c ram (heapBlock c) gs (h .row) (h .heap) g m;
       }
 
-  free-keeps : (a : RamByte) → SegmentAt s ram gs a
-      → Holds s (setCodes (s .config .bot) ram (blockOf (s .config .bot) a) (replicate (blocksAt s ram a) freeCode)) (struck (a .0) gs) ks
-      × Elsewhere (s .config) ram (setCodes (s .config .bot) ram (blockOf (s .config .bot) a) (replicate (blocksAt s ram a) freeCode))
-  free-keeps a at =
+  -- new codes for the blocks of the segment at an address, and the ledger with something in its place
+  replace-keeps : (put : Segment → List Segment) (codes : ℕ → List ℕ) (a : RamByte) (at : SegmentAt s ram gs a)
+      → ((g : Segment) → InHeap (s .config) g → InPlaceOf (s .config) g (put g))
+      → ((n : ℕ) → length (codes n) ≡ n) → ((n : ℕ) → AllBelow radix (codes n))
+      → ((g : Segment) (i : ℕ) → i < g .blocks → codeBy (s .config) (put g) (firstBlock (s .config) g + i) ≡ getD (codes (g .blocks)) i 0)
+      → let ram′ = setCodes (s .config .bot) ram (blockOf (s .config .bot) a) (codes (blocksAt s ram a)) in
+      Holds s ram′ (replacedAt (a .0) put gs) ks × Elsewhere (s .config) ram ram′
+  replace-keeps put codes a at place len below new =
       let c : Config = s .config in
       let g : Segment = at .segment in
       let in-heap : InHeap c g = row-in-heap c (heapBlock c) gs (h .row) g (at .member) in
-      let vs : List ℕ = replicate (g .blocks) freeCode in
-      let len : length vs ≡ g .blocks = length-replicate (g .blocks) freeCode in
-      let (row, inside, outside) = strike-row c (heapBlock c) gs (h .row) g (at .member) in
+      let n : length (codes (g .blocks)) ≡ g .blocks = len (g .blocks) in
+      let (row, inside, outside) = replace-row c put g (place g in-heap) (heapBlock c) gs (h .row) (at .member) in
       rw (at .count, ← (at .first), ← (at .address))
-      (write-codes s ram gs ks h (firstBlock c g) vs (struck (g .address) gs) (in-heap .fromHeap) (omega (arith, in-heap .toSafe))
-      (all-replicate radix (g .blocks) freeCode freeCode-lt) row
-      (λ i t. inside (firstBlock c g + i) (omega arith) (omega arith) ∙ sym (getD-replicate (g .blocks) i freeCode 0 (omega arith)))
+      (write-codes s ram gs ks h (firstBlock c g) (codes (g .blocks)) (replacedAt (g .address) put gs) (in-heap .fromHeap)
+      (omega (arith, in-heap .toSafe)) (below (g .blocks)) row
+      (λ i t. inside (firstBlock c g + i) (omega arith) (omega arith) ∙ new g i (omega arith))
       (λ j out. outside j (λ t. omega (arith, out t))))
 
   pub free-holds : (a : RamByte)
@@ -127,23 +124,9 @@ module _ (s : State) (ram : List ℕ) (gs : List Segment) (ks : List OpenCall) (
       by (Refused r) e = (h, λ x out. refl)
       by (Done v) e =
           let (t, _) = passed (freeRows s ram a) (Done (blocksAt s ram a)) v e in
-          free-keeps a (segment-at a (not-false _ (t .1 .1 .0)))
-
-  change-keeps : (a : RamByte) (d : ℕ) → d < trusted → SegmentAt s ram gs a
-      → Holds s (setCodes (s .config .bot) ram (blockOf (s .config .bot) a) (segmentCodes d (blocksAt s ram a))) (changed (a .0) d gs) ks
-      × Elsewhere (s .config) ram (setCodes (s .config .bot) ram (blockOf (s .config .bot) a) (segmentCodes d (blocksAt s ram a)))
-  change-keeps a d m at =
-      let c : Config = s .config in
-      let g : Segment = at .segment in
-      let in-heap : InHeap c g = row-in-heap c (heapBlock c) gs (h .row) g (at .member) in
-      let vs : List ℕ = segmentCodes d (g .blocks) in
-      let len : length vs ≡ g .blocks = length-segmentCodes d (g .blocks) in
-      let (row, inside, outside) = change-row c (heapBlock c) d m gs (h .row) g (at .member) in
-      rw (at .count, ← (at .first), ← (at .address))
-      (write-codes s ram gs ks h (firstBlock c g) vs (changed (g .address) d gs) (in-heap .fromHeap) (omega (arith, in-heap .toSafe))
-      (segmentCodes-below d (g .blocks) (omega arith)) row
-      (λ i t. inside (firstBlock c g + i) (omega arith) (omega arith) ∙ code-segment c (madeOver g d) [] i (omega arith))
-      (λ j out. outside j (λ t. omega (arith, out t))))
+          replace-keeps struck (λ n. replicate n freeCode) a (segment-at a (not-false _ (t .1 .1 .0))) (struck-place (s .config))
+          (λ n. length-replicate n freeCode) (λ n. all-replicate radix n freeCode freeCode-lt)
+          (λ g i l. code-none (s .config) _ ∙ sym (getD-replicate (g .blocks) i freeCode 0 l))
 
   pub change-holds : (a : RamByte) (d : ℕ)
       → Kept s gs ks (change a d) ram (changeOf s ram a d)
@@ -154,4 +137,7 @@ module _ (s : State) (ram : List ℕ) (gs : List Segment) (ks : List OpenCall) (
       by (Refused r) e = (h, λ x out. refl)
       by (Done v) e =
           let (t, _) = passed (changeRows s ram a d) (Done (blocksAt s ram a)) v e in
-          change-keeps a d (leb-false _ _ (t .1 .1 .1 .1 .0)) (segment-at a (not-false _ (t .1 .1 .0)))
+          let m : d < trusted = leb-false trusted d (t .1 .1 .1 .1 .0) in
+          replace-keeps (madeOver d) (segmentCodes d) a (segment-at a (not-false _ (t .1 .1 .0))) (over-place (s .config) d m)
+          (length-segmentCodes d) (λ n. segmentCodes-below d n (omega arith))
+          (λ g i l. code-segment (s .config) (record { address = g .address; blocks = g .blocks; owner = d }) [] i l)

@@ -1,9 +1,9 @@
 -- What holds of the machine, the ledger and the open calls after every operation, and how a write of codes to the heap keeps it.
 -- Assumes nothing.
-use Prim.Native.Nat.{ℕ, zero, suc, _+_, _-_, _*_, _≤_, _<_}
-use mathlib.Core.Path.{_≡_, refl, sym, ap, _∙_}
-use mathlib.Core.Logic.{_⊎_, inl, inr}
-use mathlib.Core.Bool.{true, false}
+use Prim.Native.Nat.{ℕ, _+_, _-_, _*_, _≤_, _<_}
+use mathlib.Core.Path.{_≡_, sym, _∙_}
+use mathlib.Core.Logic.{_⊎_, inl}
+use mathlib.Core.Bool.{true}
 use mathlib.Core.List.{List, [], _∷_}
 use native.Mathlib.Omega.{arith}
 use lib.ListN.{length, getD}
@@ -13,14 +13,14 @@ use borrow.Author.Tests.{ltb-true, ltb-false}
 use Rattle.rules.specs.declared.RamByte.{RamByte}
 use Rattle.rules.specs.declared.Config.{Config}
 use Rattle.rules.specs.declared.State.{State}
-use Rattle.rules.specs.Memory.{ramBytes, heapBlock, safeBlock, blocks, radix, perByte, mapBytes, mapByte, codeOf, setCodes, trusted}
+use Rattle.rules.specs.Memory.{ramBytes, heapBlock, safeBlock, radix, perByte, mapBytes, mapByte, codeOf, setCodes, trusted}
 use Rattle.rules.specs.Code.{goodSite}
 use Rattle.rules.specs.Answers.{Given}
 use Rattle.rules.specs.SetUp.{setUpCode}
 use Rattle.laws.proofs.Tests.{byTest}
 use Rattle.laws.proofs.AllBelow.{AllBelow}
 use Rattle.laws.proofs.Map.{mapByte-ge, mapByte-lt, code-of-byte, length-setCodes, codes-outside, codes-inside, setCodes-outside, setCodes-bytes}
-use Rattle.laws.proofs.Good.{GoodConfig, GoodState, safeBlock≤blocks, blocks≤places, place<heap, heapBlock≤safeBlock}
+use Rattle.laws.proofs.Good.{GoodConfig, GoodState, safeBlock≤blocks, blocks≤places, place<heap}
 use Rattle.promises.specs.History.{InMap, InSafeStack, Bytes}
 use Rattle.promises.specs.Operations.{Operation}
 use Rattle.promises.specs.Ledger.{Segment, booked, codeBy}

@@ -1,16 +1,13 @@
 -- The incident cannot happen: what another module has got is out of reach of the one that freed it.
 -- Assumes nothing.
-use Prim.Native.Nat.{ℕ, _≤_, _<_}
-use mathlib.Core.Path.{_≡_, refl, sym, ap, _∙_, subst}
-use mathlib.Core.Logic.{_⊎_, inl, inr, ⊎-elim, _≢_}
-use mathlib.Core.Bool.{true, false, not}
-use mathlib.Core.List.{List}
+use Prim.Native.Nat.{ℕ}
+use mathlib.Core.Path.{_≡_, refl, sym, _∙_}
+use mathlib.Core.Logic.{⊎-elim, _≢_}
 use native.Mathlib.Omega.{arith}
 use lib.ListN.{length}
 use borrow.Author.Tests.{eq-eqb, eqb-true, ne-eqb, lt-leb, lt-ltb, le-ltb, not-false}
 use Rattle.rules.specs.declared.RamByte.{RamByte}
 use Rattle.rules.specs.declared.Config.{Config}
-use Rattle.rules.specs.declared.State.{State}
 use Rattle.rules.specs.declared.Answer.the-variants.{Done, Refused}
 use Rattle.rules.specs.declared.Refusal.the-variants.{OtherOwner}
 use Rattle.rules.specs.Memory.{ramBytes, heapBlock, trusted}
@@ -20,11 +17,11 @@ use Rattle.rules.specs.Free.{blocksAt, freeAnswer}
 use Rattle.laws.proofs.Answers.{passed, give-answer}
 use Rattle.laws.proofs.Good.{GoodConfig, goodState-true, bot<heap}
 use Rattle.promises.specs.Operations.{Operation, store, free}
-use Rattle.promises.specs.History.{History, _then_, stateOf, ramOf, domainOf, byteAt, answerTo, StoredBy, Assumed, Stretch, none, next}
-use Rattle.promises.specs.Ledger.{Segment, ledger, InSegment, InHeap}
+use Rattle.promises.specs.History.{History, _then_, stateOf, ramOf, domainOf, byteAt, answerTo, Assumed, Stretch, none, next}
+use Rattle.promises.specs.Ledger.{Segment, ledger, InSegment}
 use Rattle.promises.specs.Calls.{openCalls}
-use Rattle.promises.specs.Promise.{_∈_, StoredByHolder}
-use Rattle.promises.specs.Incident.{Incident, OutOfReach, NoIncident}
+use Rattle.promises.specs.Promise.{_∈_}
+use Rattle.promises.specs.Incident.{NoIncident}
 use Rattle.promises.proofs.Row.{row-in-heap}
 use Rattle.promises.proofs.Holds.{Holds}
 use Rattle.promises.proofs.Free.{freeRows, SegmentAt, segment-at}

@@ -1,10 +1,10 @@
 -- The sample's history is as assumed, so what is promised is promised of something; and its ghosts, as the checker computes them.
 -- Assumes nothing.
 use Prim.Native.Nat.{ℕ, zero, suc, _<_}
-use mathlib.Core.Path.{_≡_, refl, sym, _∙_}
-use mathlib.Core.List.{List, [], _∷_}
+use mathlib.Core.Path.{_≡_, refl}
+use mathlib.Core.List.{[], _∷_}
 use native.Mathlib.Omega.{arith}
-use lib.ListN.{getD, set, replicate, length, take}
+use lib.ListN.{getD, set, replicate, take}
 use Rattle.rules.specs.declared.Answer.the-variants.{Done}
 use Rattle.rules.specs.Memory.{ramBytes, dividedUp, blockBytes, startOf, blockOf, blocksFor, blocks, heapBlock, safeBlock, isMultiple, radix, perByte, mapBytesFor, mapBytes, digit, setDigit, mapByte, mapDigit, codeOf, setCode, setCodes, startCode, laterCode, freeCode, ownerOf, startsSegment, isFree}
 use Rattle.rules.specs.Code.{flashWord, ordered, apartFrom, allApart, tableWords}
@@ -15,7 +15,7 @@ use Rattle.rules.specs.Malloc.{freeRun, firstRun, lowestRun}
 use Rattle.rules.specs.Free.{continued, segmentBlocks}
 use Rattle.laws.proofs.Parts.{set-bytes}
 use Rattle.promises.specs.History.{History, setUp, after, domainOf, Bytes, Assumed}
-use Rattle.promises.specs.Ledger.{Segment, entered, struck, changed, ledger}
+use Rattle.promises.specs.Ledger.{Segment, entered, replacedAt, ledger}
 use Rattle.promises.specs.Calls.{cross, openCalls}
 use Rattle.promises.specs.Sample.{sample, sampleTable, zeroRam, sampleOperations}
 use Rattle.promises.specs.Instance.{played, sampleHistory}
@@ -58,7 +58,7 @@ pub record Computed : Type 0 where
   pub end-calls : openCalls sampleHistory ≡ []
 
 pub computed : Computed
-unfolding after ledger openCalls entered struck changed dividedUp blockBytes blockOf blocksFor blocks heapBlock safeBlock isMultiple radix perByte mapBytesFor mapBytes digit setDigit mapByte mapDigit codeOf setCode setCodes startCode laterCode freeCode ownerOf startsSegment ordered apartFrom allApart goodConfig goodState setUpCode setUpCodes setUpRam startOf isFree readFrame freeRun firstRun lowestRun continued segmentBlocks
+unfolding after ledger openCalls entered replacedAt dividedUp blockBytes blockOf blocksFor blocks heapBlock safeBlock isMultiple radix perByte mapBytesFor mapBytes digit setDigit mapByte mapDigit codeOf setCode setCodes startCode laterCode freeCode ownerOf startsSegment ordered apartFrom allApart goodConfig goodState setUpCode setUpCodes setUpRam startOf isFree readFrame freeRun firstRun lowestRun continued segmentBlocks
 computed =
     record {
       set-up = refl;

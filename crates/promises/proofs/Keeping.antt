@@ -2,26 +2,23 @@
 -- Assumes nothing.
 use Prim.Native.Nat.{ℕ}
 use mathlib.Core.Path.{_≡_, refl, sym, ap, _∙_}
-use mathlib.Core.Logic.{_⊎_, inl, inr, _≢_}
-use mathlib.Core.Bool.{Bool}
-use mathlib.Core.List.{List, [], _∷_}
-use lib.ListN.{replicate}
+use mathlib.Core.Logic.{inl, inr, _≢_}
+use mathlib.Core.List.{List, [], _∷_, _++_}
 use lib.Dec.{ltb, eqb}
-use borrow.Author.Tests.{eqb-true, eqb-false, not-false, ne-eqb}
+use borrow.Author.Tests.{eqb-true, not-false, ne-eqb}
 use Rattle.rules.specs.declared.RamByte.{RamByte}
 use Rattle.rules.specs.declared.State.{State}
 use Rattle.rules.specs.declared.Answer.{Answer}
 use Rattle.rules.specs.declared.Answer.the-variants.{Done, Refused}
 use Rattle.rules.specs.Memory.{blockOf, heapBlock, codeOf, ownerOf}
 use Rattle.rules.specs.State.{ramByte}
-use Rattle.rules.specs.Answers.{Given, give}
 use Rattle.rules.specs.Store.{ownerAt}
-use Rattle.rules.specs.Free.{blocksAt, freeAnswer, freeOf, changeAnswer, changeOf}
+use Rattle.rules.specs.Free.{blocksAt, freeAnswer, changeAnswer}
 use Rattle.laws.proofs.Tests.{byTest}
 use Rattle.laws.proofs.Answers.{passed, give-answer}
 use Rattle.promises.specs.Operations.{Operation, store, call, return, malloc, free, change}
 use Rattle.promises.specs.History.{History, _then_, stateOf, ramOf, domainOf, answerTo}
-use Rattle.promises.specs.Ledger.{Segment, entered, struck, changed, booked, ledger}
+use Rattle.promises.specs.Ledger.{Segment, entered, replacedAt, struck, madeOver, booked, ledger}
 use Rattle.promises.specs.Calls.{OpenCall, openCalls}
 use Rattle.promises.specs.Promise.{_∈_}
 use Rattle.promises.proofs.Shown.{member-owner}
@@ -38,21 +35,17 @@ entered-keeps f g (e ∷ es) (inl q) =
 entered-keeps f g (e ∷ es) (inr m) =
     byTest (ltb (f .address) (e .address)) (λ t. rw t (inr (inr m))) (λ t. rw t (inr (entered-keeps f g es m)))
 
-struck-keeps : (a : ℕ) (g : Segment) → g .address ≢ a → (gs : List Segment) → g ∈ gs → g ∈ struck a gs
-unfolding struck
-struck-keeps a g n [] m = absurd m
-struck-keeps a g n (e ∷ es) (inl q) =
-    rw (ne-eqb (e .address) a (λ w. n (ap (λ (f : Segment). f .address) q ∙ w))) (inl q)
-struck-keeps a g n (e ∷ es) (inr m) =
-    byTest (eqb (e .address) a) (λ t. rw t m) (λ t. rw t (inr (struck-keeps a g n es m)))
+behind : (g : Segment) (xs ys : List Segment) → g ∈ ys → g ∈ xs ++ ys
+behind g [] ys m = m
+behind g (x ∷ xs) ys m = inr (behind g xs ys m)
 
-changed-keeps : (a d : ℕ) (g : Segment) → g .address ≢ a → (gs : List Segment) → g ∈ gs → g ∈ changed a d gs
-unfolding changed
-changed-keeps a d g n [] m = absurd m
-changed-keeps a d g n (e ∷ es) (inl q) =
+replaced-keeps : (a : ℕ) (put : Segment → List Segment) (g : Segment) → g .address ≢ a → (gs : List Segment) → g ∈ gs → g ∈ replacedAt a put gs
+unfolding replacedAt
+replaced-keeps a put g n [] m = absurd m
+replaced-keeps a put g n (e ∷ es) (inl q) =
     rw (ne-eqb (e .address) a (λ w. n (ap (λ (f : Segment). f .address) q ∙ w))) (inl q)
-changed-keeps a d g n (e ∷ es) (inr m) =
-    byTest (eqb (e .address) a) (λ t. rw t (inr m)) (λ t. rw t (inr (changed-keeps a d g n es m)))
+replaced-keeps a put g n (e ∷ es) (inr m) =
+    byTest (eqb (e .address) a) (λ t. rw t (behind g (put e) es m)) (λ t. rw t (inr (replaced-keeps a put g n es m)))
 
 -- ---- the operations
 
@@ -66,15 +59,15 @@ module _ (s : State) (ram : List ℕ) (gs : List Segment) (ks : List OpenCall) (
       ∙ ap (λ (x : ℕ). ownerOf (codeOf (s .config .bot) ram (blockOf (s .config .bot) (ramByte x)))) (sym q)
       ∙ member-owner (s .config) ram (heapBlock (s .config)) gs (i .row) (i .heap) g m)
 
-  free-stays : (a : RamByte) (v : ℕ) → freeAnswer s ram a ≡ Done v → g ∈ struck (a .0) gs
+  free-stays : (a : RamByte) (v : ℕ) → freeAnswer s ram a ≡ Done v → g ∈ replacedAt (a .0) struck gs
   free-stays a v e =
       let (t, _) = passed (freeRows s ram a) (Done (blocksAt s ram a)) v e in
-      struck-keeps (a .0) g (elsewhere a (eqb-true _ _ (not-false _ (t .1 .1 .1 .0)))) gs m
+      replaced-keeps (a .0) struck g (elsewhere a (eqb-true _ _ (not-false _ (t .1 .1 .1 .0)))) gs m
 
-  change-stays : (a : RamByte) (d v : ℕ) → changeAnswer s ram a d ≡ Done v → g ∈ changed (a .0) d gs
+  change-stays : (a : RamByte) (d v : ℕ) → changeAnswer s ram a d ≡ Done v → g ∈ replacedAt (a .0) (madeOver d) gs
   change-stays a d v e =
       let (t, _) = passed (changeRows s ram a d) (Done (blocksAt s ram a)) v e in
-      changed-keeps (a .0) d g (elsewhere a (eqb-true _ _ (not-false _ (t .1 .1 .1 .0)))) gs m
+      replaced-keeps (a .0) (madeOver d) g (elsewhere a (eqb-true _ _ (not-false _ (t .1 .1 .1 .0)))) gs m
 
 -- a refused operation leaves the ledger
 by-answer : (d : ℕ) (o : Operation) (gs : List Segment) (g : Segment) → g ∈ gs → (x : Answer)

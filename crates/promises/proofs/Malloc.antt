@@ -1,8 +1,8 @@
 -- Malloc keeps the invariant: the run that it finds is free, so the new segment fits the row.
 -- Assumes nothing.
-use Prim.Native.Nat.{ℕ, zero, suc, _+_, _-_, _≤_, _<_}
+use Prim.Native.Nat.{ℕ, _+_, _≤_, _<_}
 use mathlib.Core.Path.{_≡_, refl, sym, ap, _∙_, subst}
-use mathlib.Core.Bool.{Bool, true, false, not, true≢false}
+use mathlib.Core.Bool.{Bool, false, not, true≢false}
 use mathlib.Core.List.{List, [], _∷_}
 use native.Mathlib.Omega.{arith}
 use lib.ListN.{length}
@@ -17,7 +17,7 @@ use Rattle.rules.specs.declared.Answer.{Answer}
 use Rattle.rules.specs.declared.Answer.the-variants.{Done, Refused}
 use Rattle.rules.specs.declared.Refusal.{Refusal}
 use Rattle.rules.specs.declared.Refusal.the-variants.{WrongSize, BadState, TrustedMalloc, SizeZero, NoRun}
-use Rattle.rules.specs.Memory.{ramBytes, startOf, blocksFor, heapBlock, safeBlock, setCodes, segmentCodes, freeCode, trusted}
+use Rattle.rules.specs.Memory.{ramBytes, startOf, blocksFor, heapBlock, safeBlock, setCodes, segmentCodes, trusted}
 use Rattle.rules.specs.State.{goodState}
 use Rattle.rules.specs.Answers.{give}
 use Rattle.rules.specs.Store.{isTrusted}
@@ -26,8 +26,8 @@ use Rattle.laws.proofs.Answers.{passed}
 use Rattle.laws.proofs.Blocks.{block-start, blocksFor-pos}
 use Rattle.laws.proofs.Codes.{length-segmentCodes, segmentCodes-below}
 use Rattle.laws.proofs.Search.{found, found-in-heap, free-run-at, free-block}
-use Rattle.promises.specs.Operations.{Operation, malloc}
-use Rattle.promises.specs.Ledger.{Segment, entered, firstBlock, endBlock, InHeap, codeBy}
+use Rattle.promises.specs.Operations.{malloc}
+use Rattle.promises.specs.Ledger.{Segment, entered, firstBlock, InHeap}
 use Rattle.promises.specs.Calls.{OpenCall}
 use Rattle.promises.proofs.Row.{enter-row, code-segment, code-past}
 use Rattle.promises.proofs.Holds.{Holds, Elsewhere, Kept, write-codes}

@@ -1,33 +1,29 @@
 -- A return finds the frame of the newest open call, gives what that call wants, and keeps the invariant.
 -- Assumes nothing.
-use Prim.Native.Nat.{ℕ, zero, suc, _+_, _-_, _≤_, _<_}
-use mathlib.Core.Path.{_≡_, refl, sym, ap, _∙_, subst}
-use mathlib.Core.Bool.{Bool, true, false, not, _||_}
-use mathlib.Core.List.{List, [], _∷_, _++_}
+use Prim.Native.Nat.{ℕ, _+_, _-_, _<_}
+use mathlib.Core.Path.{_≡_, refl, sym, ap, _∙_}
+use mathlib.Core.Bool.{Bool, false, not}
+use mathlib.Core.List.{List, [], _∷_}
 use native.Mathlib.Omega.{arith}
 use lib.ListN.{length, length-append, take, drop}
 use lib.Seq.{slice, length-slice, take-take, take-at}
-use lib.Dec.{eqb, leb, ltb}
+use lib.Dec.{eqb}
 use borrow.Author.Tests.{eq-eqb, ne-eqb, le-ltb, lt-leb}
 use Rattle.rules.specs.declared.State.{State}
 use Rattle.rules.specs.declared.Config.{Config}
-use Rattle.rules.specs.declared.Frame.{Frame}
-use Rattle.rules.specs.declared.Answer.{Answer}
 use Rattle.rules.specs.declared.Answer.the-variants.{Done, Refused}
 use Rattle.rules.specs.declared.Refusal.{Refusal}
 use Rattle.rules.specs.declared.Refusal.the-variants.{WrongSize, BadState, NoFrame, DamagedFrame}
 use Rattle.rules.specs.Memory.{ramBytes}
-use Rattle.rules.specs.Code.{goodSite}
 use Rattle.rules.specs.State.{goodState, ramByte}
-use Rattle.rules.specs.Answers.{Given, give}
 use Rattle.rules.specs.Call.{frameBytes}
 use Rattle.rules.specs.Return.{readFrame, topFrame, damaged, siteOf, returnAnswer, returned, returnOf}
 use Rattle.laws.proofs.Tests.{or-false}
 use Rattle.laws.proofs.Answers.{none-holds}
 use Rattle.laws.proofs.Parts.{slice-as}
 use Rattle.laws.proofs.Frames.{IsFrame, readFrame-back}
-use Rattle.laws.proofs.Good.{GoodState, goodState-true}
-use Rattle.promises.specs.Operations.{Operation, return}
+use Rattle.laws.proofs.Good.{goodState-true}
+use Rattle.promises.specs.Operations.{return}
 use Rattle.promises.specs.Ledger.{Segment}
 use Rattle.promises.specs.Calls.{Kind, local, cross, OpenCall, frameFor, framesOf, Returns}
 use Rattle.promises.proofs.Holds.{LeftBy, Link, Holds, Kept}

@@ -1,36 +1,34 @@
 -- Malloc finds room if there is any, and what was freed is room again.
 -- Assumes nothing.
-use Prim.Native.Nat.{ℕ, zero, suc, _+_, _-_, _*_, _≤_, _<_}
-use mathlib.Core.Path.{_≡_, refl, sym, ap, _∙_, subst}
-use mathlib.Core.Bool.{Bool, true, false, not, true≢false}
+use Prim.Native.Nat.{ℕ, _+_, _-_, _≤_, _<_}
+use mathlib.Core.Path.{_≡_, refl, sym, _∙_, subst}
+use mathlib.Core.Bool.{true, true≢false}
 use mathlib.Core.Logic.{_≢_}
-use mathlib.Core.List.{List, [], _∷_}
+use mathlib.Core.List.{List}
 use native.Mathlib.Omega.{arith}
 use lib.ListN.{length, replicate, length-replicate, getD-replicate}
-use lib.Dec.{eqb}
 use borrow.Author.Tests.{eq-eqb, eqb-true, ne-eqb, not-false}
 use Rattle.rules.specs.declared.RamByte.{RamByte}
 use Rattle.rules.specs.declared.Config.{Config}
 use Rattle.rules.specs.declared.State.{State}
 use Rattle.rules.specs.declared.Found.{Found}
 use Rattle.rules.specs.declared.Found.the-variants.{At, Nowhere}
-use Rattle.rules.specs.declared.Answer.{Answer}
 use Rattle.rules.specs.declared.Answer.the-variants.{Done, Refused}
 use Rattle.rules.specs.declared.Refusal.the-variants.{NoRun}
-use Rattle.rules.specs.Memory.{ramBytes, radix, blockBytes, blockOf, blocksFor, blocks, heapBlock, safeBlock, codeOf, setCodes, freeCode, isFree, trusted}
+use Rattle.rules.specs.Memory.{ramBytes, radix, blockOf, blocksFor, safeBlock, setCodes, freeCode, isFree, trusted}
 use Rattle.rules.specs.State.{goodState}
-use Rattle.rules.specs.Answers.{_⇒_∣_, give}
-use Rattle.rules.specs.Malloc.{freeRun, lowestRun, nowhere, addressOf, mallocAnswer, mallocOf}
-use Rattle.rules.specs.Free.{isSegment, blocksAt, freeAnswer, freeOf}
+use Rattle.rules.specs.Answers.{_⇒_∣_}
+use Rattle.rules.specs.Malloc.{lowestRun, nowhere, addressOf, mallocAnswer, mallocOf}
+use Rattle.rules.specs.Free.{blocksAt, freeAnswer}
 use Rattle.laws.proofs.Tests.{byTest}
 use Rattle.laws.proofs.Answers.{passed, give-answer}
 use Rattle.laws.proofs.AllBelow.{all-replicate}
 use Rattle.laws.proofs.Blocks.{blocksFor-pos, blocksFor-least}
 use Rattle.laws.proofs.Map.{codes-inside, length-setCodes}
 use Rattle.laws.proofs.Codes.{freeCode-lt}
-use Rattle.laws.proofs.Search.{block-free, free-run, free-run-at, found, not-found, run-found}
+use Rattle.laws.proofs.Search.{block-free, free-run, free-run-at, found, run-found}
 use Rattle.laws.proofs.Segments.{segment-in-heap}
-use Rattle.laws.proofs.Good.{GoodConfig, GoodState, goodState-facts, safeBlock≤blocks, mapByte<heap}
+use Rattle.laws.proofs.Good.{GoodConfig, goodState-facts, safeBlock≤blocks, mapByte<heap}
 use Rattle.promises.specs.Room.{FreeBlocks, RoomFound, FreedRoom}
 use Rattle.promises.proofs.Malloc.{somewhere}
 use Rattle.promises.proofs.Free.{freeRows, StartAt, start-at}

@@ -1,22 +1,22 @@
--- Segments in a row through the heap: the codes that they give the blocks, and what entering, striking out and making over one of them does to
--- the row and to the codes.
+-- Segments in a row through the heap: the codes that they give the blocks, and what entering one, or putting something in one's place, does
+-- to the row and to the codes.
 -- Assumes nothing.
-use Prim.Native.Nat.{ℕ, zero, suc, _+_, _-_, _*_, _≤_, _<_}
+use Prim.Native.Nat.{ℕ, zero, suc, _+_, _≤_, _<_}
 use mathlib.Core.Path.{_≡_, refl, sym, ap, _∙_}
-use mathlib.Core.Logic.{_≢_, _⊎_, inl, inr}
-use mathlib.Core.Bool.{Bool, true, false, _&&_, true≢false}
-use mathlib.Core.List.{List, [], _∷_}
+use mathlib.Core.Logic.{_≢_, inl, inr}
+use mathlib.Core.Bool.{true, false, _&&_, true≢false}
+use mathlib.Core.List.{List, [], _∷_, _++_}
 use native.Mathlib.Omega.{arith}
 use native.Mathlib.Decide.{ℕ-discrete}
 use lib.ListN.{getD}
 use lib.Dec.{ltb, eqb}
-use borrow.Author.Tests.{ltb-true, ltb-false, eqb-true, eqb-false, lt-ltb, le-ltb, eq-eqb, ne-eqb}
+use borrow.Author.Tests.{ltb-true, ltb-false, lt-ltb, eq-eqb, ne-eqb}
 use Rattle.rules.specs.declared.Config.{Config}
-use Rattle.rules.specs.Memory.{startOf, blockOf, heapBlock, safeBlock, startCode, laterCode, freeCode, startsSegment, segmentCodes, trusted}
+use Rattle.rules.specs.Memory.{startCode, laterCode, freeCode, startsSegment, segmentCodes, trusted}
 use Rattle.laws.proofs.Tests.{byTest, both, and-true}
 use Rattle.laws.proofs.Blocks.{start-mono, start-lt, blockBytes-pos}
-use Rattle.laws.proofs.Codes.{start≢free, start≢later, later≢free, starts-start, starts-later, starts-free, getD-segmentCodes-first, getD-segmentCodes-later}
-use Rattle.promises.specs.Ledger.{Segment, entered, struck, madeOver, changed, firstBlock, endBlock, InHeap, Apart, codeBy}
+use Rattle.laws.proofs.Codes.{start≢free, start≢later, later≢free, starts-later, starts-free, getD-segmentCodes-first, getD-segmentCodes-later}
+use Rattle.promises.specs.Ledger.{Segment, entered, replacedAt, struck, madeOver, firstBlock, endBlock, InHeap, Apart, codeBy}
 use Rattle.promises.specs.Promise.{_∈_}
 
 module _ (c : Config) where
@@ -226,7 +226,7 @@ module _ (c : Config) where
             (g, inr m, e))
       ]
 
-  -- ---- striking out and making over
+  -- ---- putting something in a segment's place
 
   -- a segment behind f has another address
   address-behind : (f : Segment) (fs : List Segment) → InHeap c f → Row (endBlock c f) fs → (g : Segment) → g ∈ fs → eqb (f .address) (g .address) ≡ false
@@ -236,48 +236,50 @@ module _ (c : Config) where
       let l : firstBlock c f < firstBlock c g = omega (arith, hf .some) in
       ne-eqb (f .address) (g .address) (λ e. omega (arith, hf .atBlock, hg .atBlock, blockBytes-pos, start-lt (c .bot) l))
 
-  pub strike-row : (lo : ℕ) (gs : List Segment) → Row lo gs → (g : Segment) → g ∈ gs
-      → Row lo (struck (g .address) gs)
-      × ((k : ℕ) → firstBlock c g ≤ k → k < endBlock c g → codeBy c (struck (g .address) gs) k ≡ freeCode)
-      × ((k : ℕ) → (firstBlock c g ≤ k → endBlock c g ≤ k) → codeBy c (struck (g .address) gs) k ≡ codeBy c gs k)
-  unfolding struck
-  strike-row lo [] r g m = absurd m
-  strike-row lo (f ∷ fs) r g (inl e) =
-      rw (e, eq-eqb (f .address) (f .address) refl) (
-        row-lower lo (endBlock c f) fs (omega (arith, r .1)) (r .2),
-        λ k l u. code-below (endBlock c f) fs (r .2) k u,
-        λ k out. sym (code-past f fs k (r .0 .some) out),
+  -- what may stand in g's place: it fits there, and has its codes in g's blocks alone
+  pub record InPlaceOf (g : Segment) (new : List Segment) : Type 0 where
+    pub fits : (lo : ℕ) (fs : List Segment) → lo ≤ firstBlock c g → Row (endBlock c g) fs → Row lo (new ++ fs)
+    pub inside : (fs : List Segment) (k : ℕ) → Row (endBlock c g) fs → firstBlock c g ≤ k → k < endBlock c g
+        → codeBy c (new ++ fs) k ≡ codeBy c new k
+    pub outside : (fs : List Segment) (k : ℕ) → (firstBlock c g ≤ k → endBlock c g ≤ k) → codeBy c (new ++ fs) k ≡ codeBy c fs k
+
+  pub struck-place : (g : Segment) → InHeap c g → InPlaceOf g (struck g)
+  struck-place g h =
+      record {
+        fits = λ lo fs l r. row-lower lo (endBlock c g) fs (omega arith) r;
+        inside = λ fs k r l u. code-below (endBlock c g) fs r k u ∙ sym (code-none k);
+        outside = λ fs k out. refl;
+      }
+
+  pub over-place : (d : ℕ) → d < trusted → (g : Segment) → InHeap c g → InPlaceOf g (madeOver d g)
+  over-place d m g h =
+      let f : Segment = record { address = g .address; blocks = g .blocks; owner = d } in
+      let over : InHeap c f =
+      record { atBlock = h .atBlock; fromHeap = h .fromHeap; toSafe = h .toSafe; some = h .some; byModule = m } in
+      record {
+        fits = λ lo fs l r. (over, l, r);
+        inside = λ fs k r l u. code-in f fs [] k l u;
+        outside = λ fs k out. code-past f fs k (h .some) out;
+      }
+
+  pub replace-row : (put : Segment → List Segment) (g : Segment) → InPlaceOf g (put g) → (lo : ℕ) (gs : List Segment) → Row lo gs → g ∈ gs
+      → Row lo (replacedAt (g .address) put gs)
+      × ((k : ℕ) → firstBlock c g ≤ k → k < endBlock c g → codeBy c (replacedAt (g .address) put gs) k ≡ codeBy c (put g) k)
+      × ((k : ℕ) → (firstBlock c g ≤ k → endBlock c g ≤ k) → codeBy c (replacedAt (g .address) put gs) k ≡ codeBy c gs k)
+  unfolding replacedAt
+  replace-row put g new lo [] r m = absurd m
+  replace-row put g new lo (f ∷ fs) r (inl e) =
+      let r′ : Row lo (g ∷ fs) = rw e r in
+      rw (← e, eq-eqb (g .address) (g .address) refl) (
+        new .fits lo fs (r′ .1) (r′ .2),
+        λ k l u. new .inside fs k (r′ .2) l u,
+        λ k out. new .outside fs k out ∙ sym (code-past g fs k (r′ .0 .some) out),
       )
-  strike-row lo (f ∷ fs) r g (inr m) =
-      let (row, inside, outside) = strike-row (endBlock c f) fs (r .2) g m in
+  replace-row put g new lo (f ∷ fs) r (inr m) =
+      let (row, inside, outside) = replace-row put g new (endBlock c f) fs (r .2) m in
       let b : endBlock c f ≤ firstBlock c g = member-behind (endBlock c f) fs (r .2) g m in
       rw (address-behind f fs (r .0) (r .2) g m) (
         (r .0, r .1, row),
-        λ k l u. code-past f (struck (g .address) fs) k (r .0 .some) (λ h. omega arith) ∙ inside k l u,
-        λ k out. code-cong f (struck (g .address) fs) fs k (outside k out),
-      )
-
-  made-over : (g : Segment) (d : ℕ) → d < trusted → InHeap c g → InHeap c (madeOver g d)
-  made-over g d l h =
-      record { atBlock = h .atBlock; fromHeap = h .fromHeap; toSafe = h .toSafe; some = h .some; byModule = l }
-
-  pub change-row : (lo d : ℕ) → d < trusted → (gs : List Segment) → Row lo gs → (g : Segment) → g ∈ gs
-      → Row lo (changed (g .address) d gs)
-      × ((k : ℕ) → firstBlock c g ≤ k → k < endBlock c g → codeBy c (changed (g .address) d gs) k ≡ codeBy c (madeOver g d ∷ []) k)
-      × ((k : ℕ) → (firstBlock c g ≤ k → endBlock c g ≤ k) → codeBy c (changed (g .address) d gs) k ≡ codeBy c gs k)
-  unfolding changed
-  change-row lo d n [] r g m = absurd m
-  change-row lo d n (f ∷ fs) r g (inl e) =
-      rw (e, eq-eqb (f .address) (f .address) refl) (
-        (made-over f d n (r .0), r .1, r .2),
-        λ k l u. code-in (madeOver f d) fs [] k l u,
-        λ k out. code-past (madeOver f d) fs k (r .0 .some) out ∙ sym (code-past f fs k (r .0 .some) out),
-      )
-  change-row lo d n (f ∷ fs) r g (inr m) =
-      let (row, inside, outside) = change-row (endBlock c f) d n fs (r .2) g m in
-      let b : endBlock c f ≤ firstBlock c g = member-behind (endBlock c f) fs (r .2) g m in
-      rw (address-behind f fs (r .0) (r .2) g m) (
-        (r .0, r .1, row),
-        λ k l u. code-past f (changed (g .address) d fs) k (r .0 .some) (λ h. omega arith) ∙ inside k l u,
-        λ k out. code-cong f (changed (g .address) d fs) fs k (outside k out),
+        λ k l u. code-past f (replacedAt (g .address) put fs) k (r .0 .some) (λ h. omega arith) ∙ inside k l u,
+        λ k out. code-cong f (replacedAt (g .address) put fs) fs k (outside k out),
       )

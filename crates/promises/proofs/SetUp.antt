@@ -1,8 +1,8 @@
 -- After an accepted set-up the invariant holds: no segment, no open call, and the map as set-up wrote it.
 -- Assumes nothing.
-use Prim.Native.Nat.{ℕ, zero, suc, _+_, _*_, _≤_, _<_}
-use mathlib.Core.Path.{_≡_, refl, sym, ap, _∙_}
-use mathlib.Core.Bool.{Bool, true, false, not}
+use Prim.Native.Nat.{ℕ, _+_, _*_, _<_}
+use mathlib.Core.Path.{_≡_, refl, sym, _∙_}
+use mathlib.Core.Bool.{Bool, true, not}
 use mathlib.Core.List.{List, [], _∷_}
 use native.Mathlib.Nat.{zero-add}
 use native.Mathlib.Omega.{arith}
@@ -11,17 +11,16 @@ use lib.Seq.{slice-empty}
 use lib.Dec.{eqb}
 use borrow.Author.Tests.{eqb-true, not-false}
 use Rattle.rules.specs.declared.Config.{Config}
-use Rattle.rules.specs.declared.Answer.{Answer}
-use Rattle.rules.specs.declared.Answer.the-variants.{Done, Refused}
+use Rattle.rules.specs.declared.Answer.the-variants.{Done}
 use Rattle.rules.specs.declared.Refusal.{Refusal}
 use Rattle.rules.specs.declared.Refusal.the-variants.{WrongSize, BrokenRule}
-use Rattle.rules.specs.Memory.{ramBytes, heapBlock, safeBlock, perByte, mapBytes, mapByte, codeOf}
+use Rattle.rules.specs.Memory.{ramBytes, perByte, mapBytes, codeOf}
 use Rattle.rules.specs.State.{goodConfig, fresh, zeros}
 use Rattle.rules.specs.SetUp.{setUpCode, setUpCodes, setUpRam, setUpAnswer, setUpOf}
 use Rattle.laws.proofs.Answers.{passed, give-answer}
 use Rattle.laws.proofs.Map.{length-setCodes, codes-inside, setCodes-bytes}
 use Rattle.laws.proofs.Codes.{setUpCodes-below, length-setUpCodes, getD-setUpCodes, setUpCode-heap}
-use Rattle.laws.proofs.Good.{GoodConfig, GoodState, goodConfig-facts, goodState-facts, fresh-good, heapBlock-pos, safeBlock≤blocks, blocks≤places, place<heap}
+use Rattle.laws.proofs.Good.{GoodConfig, goodConfig-facts, goodState-facts, fresh-good, heapBlock-pos, safeBlock≤blocks, blocks≤places, place<heap}
 use Rattle.promises.specs.History.{Bytes}
 use Rattle.promises.specs.Calls.{framesOf}
 use Rattle.promises.proofs.Row.{code-none}

@@ -1,9 +1,9 @@
 -- Each operation keeps the invariant, so every history that is as assumed has it.
 -- Assumes nothing.
-use Prim.Native.Nat.{ℕ, _<_}
-use mathlib.Core.Path.{_≡_, refl, sym, ap, _∙_, subst}
+use Prim.Native.Nat.{ℕ}
+use mathlib.Core.Path.{_≡_, refl, sym, _∙_, subst}
 use mathlib.Core.Logic.{_⊎_}
-use mathlib.Core.List.{List, []}
+use mathlib.Core.List.{List}
 use Rattle.rules.specs.declared.Config.{Config}
 use Rattle.rules.specs.declared.State.{State}
 use Rattle.rules.specs.declared.Frame.{Frame}
@@ -19,8 +19,8 @@ use Rattle.rules.specs.Malloc.{mallocAnswer}
 use Rattle.rules.specs.Free.{freeAnswer, changeAnswer}
 use Rattle.promises.specs.Operations.{Operation, store, call, return, malloc, free, change, Fits, step}
 use Rattle.promises.specs.History.{History, setUp, _then_, after, stateOf, ramOf, configOf, StoredBy, InMap, InSafeStack, Assumed}
-use Rattle.promises.specs.Ledger.{Segment, ledger}
-use Rattle.promises.specs.Calls.{OpenCall, openCalls}
+use Rattle.promises.specs.Ledger.{ledger}
+use Rattle.promises.specs.Calls.{openCalls}
 use Rattle.promises.proofs.Holds.{Holds, After}
 use Rattle.promises.proofs.SetUp.{set-up-holds}
 use Rattle.promises.proofs.Store.{store-holds}

@@ -1,15 +1,15 @@
 -- A store keeps the invariant: one that is carried out lands neither in the map nor in the safe stack area.
 -- Assumes nothing.
-use Prim.Native.Nat.{ℕ, zero, suc, _+_, _-_, _*_, _≤_, _<_}
+use Prim.Native.Nat.{ℕ, _*_, _≤_, _<_}
 use mathlib.Core.Path.{_≡_, refl, sym, ap, _∙_}
-use mathlib.Core.Logic.{_⊎_, inl, inr, ⊎-elim, _≢_}
-use mathlib.Core.Bool.{Bool, true, false, not, _&&_, _||_}
+use mathlib.Core.Logic.{_⊎_, inl, inr, ⊎-elim}
+use mathlib.Core.Bool.{Bool, false, not, _&&_}
 use mathlib.Core.List.{List, [], _∷_}
 use native.Mathlib.Omega.{arith}
-use lib.ListN.{length, getD, set, length-set}
+use lib.ListN.{length, set, length-set}
 use lib.Seq.{getD-set-other}
 use lib.Dec.{ltb, leb, eqb}
-use borrow.Author.Tests.{ltb-true, ltb-false, leb-true, leb-false, eqb-true, eqb-false, not-true, not-false, le-leb, lt-ltb}
+use borrow.Author.Tests.{ltb-true, ltb-false, leb-false, eqb-true, eqb-false, not-false, le-leb, lt-ltb}
 use Rattle.rules.specs.declared.RamByte.{RamByte}
 use Rattle.rules.specs.declared.Config.{Config}
 use Rattle.rules.specs.declared.State.{State}
@@ -26,8 +26,8 @@ use Rattle.laws.proofs.Answers.{passed, give-answer}
 use Rattle.laws.proofs.Blocks.{block-lt, lt-block, start-le, start-mono}
 use Rattle.laws.proofs.Codes.{setUpCode-owner}
 use Rattle.laws.proofs.Parts.{set-bytes}
-use Rattle.laws.proofs.Good.{GoodConfig, GoodState, heap-start, safeBlock≤blocks, blocks≤places}
-use Rattle.promises.specs.Operations.{Operation, store}
+use Rattle.laws.proofs.Good.{GoodConfig, heap-start, safeBlock≤blocks, blocks≤places}
+use Rattle.promises.specs.Operations.{store}
 use Rattle.promises.specs.History.{InMap, InSafeStack}
 use Rattle.promises.specs.Ledger.{Segment}
 use Rattle.promises.specs.Calls.{OpenCall}

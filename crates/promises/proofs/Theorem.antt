@@ -1,15 +1,10 @@
 -- Demand 3: every history that is as assumed has what is promised.
 -- Assumes nothing.
-use Prim.Native.Nat.{ℕ}
-use mathlib.Core.Path.{_≡_, refl, sym, ap, _∙_, subst}
-use mathlib.Core.List.{List}
-use Rattle.rules.specs.declared.Config.{Config}
 use Rattle.rules.specs.Memory.{trusted}
 use Rattle.laws.proofs.Good.{goodState-true, heapBlock≤safeBlock}
-use Rattle.promises.specs.Operations.{Operation}
-use Rattle.promises.specs.History.{History, _then_, stateOf, ramOf, configOf, byteAt, StoredBy, Assumed, Stretch}
-use Rattle.promises.specs.Ledger.{Segment, ledger}
-use Rattle.promises.specs.Calls.{OpenCall, openCalls}
+use Rattle.promises.specs.History.{History, stateOf, ramOf, StoredBy, Assumed}
+use Rattle.promises.specs.Ledger.{ledger}
+use Rattle.promises.specs.Calls.{openCalls}
 use Rattle.promises.specs.Promise.{_∈_, Promise, StoredByHolder}
 use Rattle.promises.proofs.Row.{row-apart, row-in-heap}
 use Rattle.promises.proofs.Shown.{row-shown}

@@ -1,6 +1,6 @@
 -- What a rule gives determines answer, state and RAM, so no second result satisfies a contract.
 -- Assumes nothing.
-use mathlib.Core.Path.{_≡_, refl, sym, _∙_}
+use mathlib.Core.Path.{sym, _∙_}
 use Rattle.rules.specs.Answers.{Given}
 use Rattle.promises.specs.Uniqueness.{Determined, Uniqueness}
 

@@ -3,9 +3,8 @@
 use Prim.Native.Nat.{ℕ, zero, suc, _+_, _-_, _*_, _≤_, _<_}
 use mathlib.Core.Path.{_≡_}
 use mathlib.Core.Bool.{cond, _&&_}
-use mathlib.Core.List.{List, [], _∷_}
+use mathlib.Core.List.{List, [], _∷_, _++_}
 use lib.Dec.{ltb, eqb}
-use Rattle.rules.specs.declared.RamByte.{RamByte}
 use Rattle.rules.specs.declared.Config.{Config}
 use Rattle.rules.specs.declared.Answer.{Answer}
 use Rattle.rules.specs.declared.Answer.the-variants.{Done, Refused}
@@ -28,18 +27,18 @@ unfoldable pub entered : Segment → List Segment → List Segment
 entered g [] = g ∷ []
 entered g (f ∷ fs) = cond (ltb (g .address) (f .address)) (g ∷ f ∷ fs) (f ∷ entered g fs)
 
--- without the segment at address a
-unfoldable pub struck : ℕ → List Segment → List Segment
-struck a [] = []
-struck a (f ∷ fs) = cond (eqb (f .address) a) fs (f ∷ struck a fs)
+-- with the segment at address a replaced by what put makes of it
+unfoldable pub replacedAt : ℕ → (Segment → List Segment) → List Segment → List Segment
+replacedAt a put [] = []
+replacedAt a put (f ∷ fs) = cond (eqb (f .address) a) (put f ++ fs) (f ∷ replacedAt a put fs)
 
--- with the segment at address a made domain d's
-abbrev pub madeOver : Segment → ℕ → Segment
-madeOver f d = record { address = f .address; blocks = f .blocks; owner = d }
+-- by nothing
+abbrev pub struck : Segment → List Segment
+struck f = []
 
-unfoldable pub changed : ℕ → ℕ → List Segment → List Segment
-changed a d [] = []
-changed a d (f ∷ fs) = cond (eqb (f .address) a) (madeOver f d ∷ fs) (f ∷ changed a d fs)
+-- by the same blocks, of domain d
+abbrev pub madeOver : ℕ → Segment → List Segment
+madeOver d f = record { address = f .address; blocks = f .blocks; owner = d } ∷ []
 
 -- what an operation and its answer make of the ledger; d is the domain that was current
 abbrev pub booked : ℕ → Operation → Answer → List Segment → List Segment
@@ -48,8 +47,8 @@ booked d (store a b) (Done v) gs = gs
 booked d (call table t site p) (Done v) gs = gs
 booked d return (Done v) gs = gs
 booked d (malloc size) (Done v) gs = entered (record { address = v; blocks = blocksFor size; owner = d }) gs
-booked d (free a) (Done v) gs = struck (a .0) gs
-booked d (change a e) (Done v) gs = changed (a .0) e gs
+booked d (free a) (Done v) gs = replacedAt (a .0) struck gs
+booked d (change a e) (Done v) gs = replacedAt (a .0) (madeOver e) gs
 
 unfoldable pub ledger : History → List Segment
 ledger (setUp c ram) = []
