@@ -1,11 +1,15 @@
 -- Demand 3: every history that is as assumed has what is promised.
 -- Assumes nothing.
-use Rattle.rules.specs.Memory.{trusted}
+use Prim.Native.Nat.{ℕ, suc, _≤_, _<_}
+use native.Mathlib.Nat.{lt-of-not-le}
+use native.Mathlib.Omega.{arith}
+use Rattle.rules.specs.declared.Config.{Config}
+use Rattle.rules.specs.Memory.{heapBlock, safeBlock, trusted}
 use Rattle.laws.proofs.Good.{goodState-true, heapBlock≤safeBlock}
 use Rattle.promises.specs.History.{History, stateOf, ramOf, StoredBy, Assumed}
 use Rattle.promises.specs.Ledger.{ledger}
 use Rattle.promises.specs.Calls.{openCalls}
-use Rattle.promises.specs.Promise.{_∈_, Promise, StoredByHolder}
+use Rattle.promises.specs.Promise.{_∈_, IsHeapBlock, StoredByHolder, Demand3}
 use Rattle.promises.proofs.Row.{row-apart, row-in-heap}
 use Rattle.promises.proofs.Shown.{row-shown}
 use Rattle.promises.proofs.Return.{return-gives}
@@ -13,13 +17,16 @@ use Rattle.promises.proofs.Steps.{always}
 use Rattle.promises.proofs.Keeping.{segment-stays}
 use Rattle.promises.proofs.Change.{segment-step, stack-step, stretch-same, unchanged}
 
-pub promise : (h : History) → Assumed h → Promise h
+outside : (c : Config) (k : ℕ) → (IsHeapBlock c k → ⊥) → heapBlock c ≤ k → safeBlock c ≤ k
+outside c k out l = let u : safeBlock c < suc k = lt-of-not-le (λ u. out (l, u)) in omega arith
+
+pub promise : Demand3
 promise h a =
     let (e, i) = always h a in
     record {
       mapShows = rw (← e) (row-shown (stateOf h .config) (ramOf h) (ledger h) (heapBlock≤safeBlock (i .good .config)) (i .row) (i .heap));
-      heapCodes = rw (← e) (i .heap);
-      otherCodes = rw (← e) (i .other);
+      heapCodes = rw (← e) (λ k q. i .heap k (q .0) (q .1));
+      otherCodes = rw (← e) (λ k l out. i .other k l (outside (stateOf h .config) k out));
       apart = rw (← e) (row-apart (stateOf h .config) _ (ledger h) (i .row));
       inHeap = rw (← e) (row-in-heap (stateOf h .config) _ (ledger h) (i .row));
       stays = segment-stays h i;
