@@ -12,4 +12,5 @@ pub mod Frames
 pub mod Parts
 pub mod Search
 pub mod Segments
-pub mod Answers
+pub mod Rows
+pub mod SetUp

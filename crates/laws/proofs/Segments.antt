@@ -87,6 +87,18 @@ module _ (c : Config) (ram : List ℕ) where
   unfolding segmentBlocks
   segment-some k = omega arith
 
+  -- n blocks from k on are a segment of the owner of block k, if those behind the first continue it and the next block does not
+  pub segment-is : (d k n : ℕ) → ownerOf (codeOf (c .bot) ram k) ≡ d → 0 < n → k + n ≤ safeBlock c
+      → ((j : ℕ) → k < j → j < k + n → codeOf (c .bot) ram j ≡ laterCode d)
+      → (k + n < safeBlock c → codeOf (c .bot) ram (k + n) ≢ laterCode d) → segmentBlocks c ram k ≡ n
+  unfolding segmentBlocks
+  segment-is d k n owner some fits on off =
+      let e : suc k + (n - 1) ≡ k + n = omega arith in
+      let count =
+      continued-is d (suc k) (safeBlock c - suc k) (n - 1) (omega arith) (λ j l u. on j l (omega arith))
+      (λ l q. off (omega arith) (rw e at q)) in
+      rw (owner, count) (omega arith)
+
   pub segment-in-heap : (k : ℕ) → k < safeBlock c → k + segmentBlocks c ram k ≤ safeBlock c
   unfolding segmentBlocks
   segment-in-heap k h =

@@ -24,7 +24,7 @@ use Rattle.rules.specs.State.{goodState, ramByte}
 use Rattle.rules.specs.Answers.{give}
 use Rattle.rules.specs.Call.{frameBytes, frameOf, pointerOutside, isCross, callAnswer, called, callOf}
 use Rattle.laws.proofs.Tests.{byTest, neither}
-use Rattle.laws.proofs.Answers.{passed}
+use Rattle.laws.proofs.Rows.{passed}
 use Rattle.laws.proofs.Parts.{getD-sets-before, getD-sets-after, sets-bytes, slice-pushed}
 use Rattle.laws.proofs.Frames.{Fits, frame-bytes}
 use Rattle.laws.proofs.Good.{GoodConfig, safeBlock≤blocks, blocks≤places, site-fits}

@@ -18,10 +18,10 @@ use Rattle.rules.specs.Memory.{blockOf, heapBlock, codeOf, ownerOf, trusted}
 use Rattle.rules.specs.State.{ramByte}
 use Rattle.rules.specs.Answers.{give}
 use Rattle.rules.specs.Store.{ownerAt, storeAnswer, storeOf}
-use Rattle.laws.proofs.Answers.{passed, give-answer}
+use Rattle.laws.proofs.Rows.{passed, give-answer}
 use Rattle.laws.proofs.Blocks.{start-add, start-from, block-from, block-before}
 use Rattle.laws.proofs.Codes.{ownerOf-later}
-use Rattle.laws.proofs.Good.{GoodConfig}
+use Rattle.laws.proofs.Good.{GoodConfig, in-heap}
 use Rattle.promises.specs.Operations.{Operation, store, call, return, malloc, free, change}
 use Rattle.promises.specs.History.{History, _then_, after, stateOf, ramOf, domainOf, byteAt, StoredBy, InMap, InSafeStack, Assumed, Stretch, none, next}
 use Rattle.promises.specs.Ledger.{Segment, ledger, firstBlock, endBlock, InSegment, InHeap}
@@ -30,7 +30,7 @@ use Rattle.promises.specs.Promise.{_∈_, StoredByHolder, AbovePointer}
 use Rattle.promises.proofs.Row.{row-in-heap}
 use Rattle.promises.proofs.Shown.{member-owner, member-later}
 use Rattle.promises.proofs.Holds.{LeftBy, Chain, Holds}
-use Rattle.promises.proofs.Store.{storeRows, OwnStore, stored, in-heap}
+use Rattle.promises.proofs.Store.{storeRows, OwnStore, stored}
 use Rattle.promises.proofs.Call.{call-holds}
 use Rattle.promises.proofs.Return.{return-holds}
 use Rattle.promises.proofs.Malloc.{malloc-holds}
@@ -124,7 +124,7 @@ module _ (h : History) (i : Holds (stateOf h) (ramOf h) (ledger h) (openCalls h)
       let c : Config = stateOf h .config in
       let u : InHeap c g = row-in-heap c (heapBlock c) (ledger h) (i .row) g m in
       let (l, r) = segment-block g m a q in
-      in-heap c (i .good .config) a (omega (arith, u .atBlock, q .0, start-from (c .bot) (firstBlock c g)))
+      in-heap (i .good .config) a (omega (arith, u .atBlock, q .0, start-from (c .bot) (firstBlock c g)))
       (omega (arith, u .fromHeap)) (omega (arith, u .toSafe))
 
   pub segment-step : (g : Segment) → g ∈ ledger h → (x : ℕ) → InSegment g x

@@ -21,11 +21,10 @@ use Rattle.rules.specs.Answers.{give}
 use Rattle.rules.specs.Store.{ownerAt}
 use Rattle.rules.specs.Free.{isSegment, segmentBlocks, blocksAt, freeAnswer, freeOf, changeAnswer, changeOf}
 use Rattle.laws.proofs.Tests.{each}
-use Rattle.laws.proofs.Answers.{passed}
+use Rattle.laws.proofs.Rows.{passed}
 use Rattle.laws.proofs.AllBelow.{AllBelow, all-replicate}
-use Rattle.laws.proofs.Blocks.{block-le, block-lt}
 use Rattle.laws.proofs.Codes.{freeCode-lt, length-segmentCodes, segmentCodes-below}
-use Rattle.laws.proofs.Good.{GoodConfig, bot<heap}
+use Rattle.laws.proofs.Good.{GoodConfig, bot<heap, from-heap, to-safe}
 use Rattle.promises.specs.Operations.{free, change}
 use Rattle.promises.specs.Ledger.{Segment, replacedAt, struck, madeOver, firstBlock, InHeap, codeBy}
 use Rattle.promises.specs.Calls.{OpenCall}
@@ -54,7 +53,6 @@ pub record StartAt (c : Config) (ram : List ℕ) (a : RamByte) : Type 0 where
   pub starts : startsSegment (codeOf (c .bot) ram (blockOf (c .bot) a)) ≡ true
 
 pub start-at : (c : Config) (ram : List ℕ) (a : RamByte) → GoodConfig c → isSegment c ram a ≡ true → StartAt c ram a
-unfolding heapBlock safeBlock
 start-at c ram a g t =
     let (from, (to, (at, starts))) =
     each (leb (c .heap .0) (a .0))
@@ -64,8 +62,8 @@ start-at c ram a g t =
     ∷ []) t in
     let l : c .heap .0 ≤ a .0 = leb-true _ _ from in
     record {
-      fromHeap = block-le (c .bot) (c .heap) a l;
-      toSafe = block-lt (c .bot) a (c .safe) (g .botMultiple) (g .safeMultiple) (omega (arith, bot<heap g)) (ltb-true _ _ to);
+      fromHeap = from-heap g a l;
+      toSafe = to-safe g a (omega (arith, bot<heap g)) (ltb-true _ _ to);
       atBlock = eqb-true _ _ at;
       starts = starts;
     }

@@ -14,7 +14,7 @@ use Rattle.rules.specs.Memory.{ramBytes, heapBlock, trusted}
 use Rattle.rules.specs.State.{ramByte}
 use Rattle.rules.specs.Store.{ownerAt, storeAnswer}
 use Rattle.rules.specs.Free.{blocksAt, freeAnswer}
-use Rattle.laws.proofs.Answers.{passed, give-answer}
+use Rattle.laws.proofs.Rows.{passed, give-answer}
 use Rattle.laws.proofs.Good.{GoodConfig, goodState-true, bot<heap}
 use Rattle.promises.specs.Operations.{Operation, store, free}
 use Rattle.promises.specs.History.{History, _then_, stateOf, ramOf, domainOf, byteAt, answerTo, Assumed, Stretch, none, next}

@@ -15,7 +15,7 @@ use Rattle.rules.specs.State.{ramByte}
 use Rattle.rules.specs.Store.{ownerAt}
 use Rattle.rules.specs.Free.{blocksAt, freeAnswer, changeAnswer}
 use Rattle.laws.proofs.Tests.{byTest}
-use Rattle.laws.proofs.Answers.{passed, give-answer}
+use Rattle.laws.proofs.Rows.{passed, give-answer}
 use Rattle.promises.specs.Operations.{Operation, store, call, return, malloc, free, change}
 use Rattle.promises.specs.History.{History, _then_, stateOf, ramOf, domainOf, answerTo}
 use Rattle.promises.specs.Ledger.{Segment, entered, replacedAt, struck, madeOver, booked, ledger}

@@ -22,7 +22,7 @@ use Rattle.rules.specs.State.{goodState}
 use Rattle.rules.specs.Answers.{give}
 use Rattle.rules.specs.Store.{isTrusted}
 use Rattle.rules.specs.Malloc.{lowestRun, nowhere, addressOf, taken, mallocAnswer, mallocOf}
-use Rattle.laws.proofs.Answers.{passed}
+use Rattle.laws.proofs.Rows.{passed}
 use Rattle.laws.proofs.Blocks.{block-start, blocksFor-pos}
 use Rattle.laws.proofs.Codes.{length-segmentCodes, segmentCodes-below}
 use Rattle.laws.proofs.Search.{found, found-in-heap, free-run-at, free-block}

@@ -19,7 +19,7 @@ use Rattle.rules.specs.State.{goodState, ramByte}
 use Rattle.rules.specs.Call.{frameBytes}
 use Rattle.rules.specs.Return.{readFrame, topFrame, damaged, siteOf, returnAnswer, returned, returnOf}
 use Rattle.laws.proofs.Tests.{or-false}
-use Rattle.laws.proofs.Answers.{none-holds}
+use Rattle.laws.proofs.Rows.{none-holds}
 use Rattle.laws.proofs.Parts.{slice-as}
 use Rattle.laws.proofs.Frames.{IsFrame, readFrame-back}
 use Rattle.laws.proofs.Good.{goodState-true}

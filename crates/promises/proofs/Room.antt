@@ -21,7 +21,7 @@ use Rattle.rules.specs.Answers.{_⇒_∣_}
 use Rattle.rules.specs.Malloc.{lowestRun, nowhere, addressOf, mallocAnswer, mallocOf}
 use Rattle.rules.specs.Free.{blocksAt, freeAnswer}
 use Rattle.laws.proofs.Tests.{byTest}
-use Rattle.laws.proofs.Answers.{passed, give-answer}
+use Rattle.laws.proofs.Rows.{passed, give-answer}
 use Rattle.laws.proofs.AllBelow.{all-replicate}
 use Rattle.laws.proofs.Blocks.{blocksFor-pos, blocksFor-least}
 use Rattle.laws.proofs.Map.{codes-inside, length-setCodes}

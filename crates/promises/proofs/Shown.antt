@@ -11,7 +11,7 @@ use Rattle.rules.specs.declared.Config.{Config}
 use Rattle.rules.specs.Memory.{startOf, heapBlock, safeBlock, codeOf, startCode, laterCode, freeCode, ownerOf, startsSegment}
 use Rattle.rules.specs.Free.{segmentBlocks}
 use Rattle.laws.proofs.Codes.{ownerOf-start, starts-start, starts-later, starts-free}
-use Rattle.laws.proofs.Segments.{continued-is}
+use Rattle.laws.proofs.Segments.{segment-is}
 use Rattle.promises.specs.Ledger.{Segment, firstBlock, endBlock, InHeap, codeBy, segmentAt, shownFrom, shown}
 use Rattle.promises.specs.Promise.{_∈_}
 use Rattle.promises.proofs.Row.{Row, row-in-heap, member-behind, member-code, code-behind, code-first, code-later, code-past, code-none, code-below}
@@ -43,16 +43,11 @@ module _ (c : Config) (ram : List ℕ) where
         ∙ code-later c g [] k l u
 
     pub member-blocks : segmentBlocks c ram (firstBlock c g) ≡ g .blocks
-    unfolding segmentBlocks
     member-blocks =
         let h : InHeap c g = row-in-heap c lo gs row g m in
-        let k : ℕ = firstBlock c g in
-        let e : suc k + (g .blocks - 1) ≡ endBlock c g = omega (arith, h .some) in
-        let count = continued-is c ram (g .owner) (suc k) (safeBlock c - suc k) (g .blocks - 1) (omega (arith, h .toSafe, h .some))
-        (λ j l u. member-later j l (omega (arith, h .some)))
+        segment-is c ram (g .owner) (firstBlock c g) (g .blocks) member-owner (h .some) (h .toSafe) member-later
         (λ l q. code-behind c lo gs row g m (g .owner)
-        (sym (codes (endBlock c g) (omega (arith, member-behind c lo gs row g m)) (omega (arith, h .some))) ∙ (rw e at q))) in
-        rw (member-owner, count) (omega (arith, h .some))
+        (sym (codes (endBlock c g) (omega (arith, member-behind c lo gs row g m)) l) ∙ q))
 
   -- ---- the whole row
 

@@ -22,11 +22,10 @@ use Rattle.rules.specs.State.{goodState}
 use Rattle.rules.specs.Answers.{give}
 use Rattle.rules.specs.Store.{isTrusted, ownerAt, ofOther, aboveBound, storeAnswer, storeOf}
 use Rattle.laws.proofs.Tests.{byTest, neither}
-use Rattle.laws.proofs.Answers.{passed, give-answer}
-use Rattle.laws.proofs.Blocks.{block-lt, lt-block, start-le, start-mono}
+use Rattle.laws.proofs.Rows.{passed, give-answer}
 use Rattle.laws.proofs.Codes.{setUpCode-owner}
 use Rattle.laws.proofs.Parts.{set-bytes}
-use Rattle.laws.proofs.Good.{GoodConfig, heap-start, safeBlock≤blocks, blocks≤places}
+use Rattle.laws.proofs.Good.{GoodConfig, safeBlock≤blocks, blocks≤places, to-top, in-heap}
 use Rattle.promises.specs.Operations.{store}
 use Rattle.promises.specs.History.{InMap, InSafeStack}
 use Rattle.promises.specs.Ledger.{Segment}
@@ -69,17 +68,6 @@ stored s ram a v d e =
           })),
     )
 
--- an address of the protected range lies in one of its blocks, and one whose block is a heap block in the heap
-block<blocks : (c : Config) → GoodConfig c → (a : RamByte) → c .bot .0 ≤ a .0 → a .0 < c .top .0 → blockOf (c .bot) a < blocks c
-unfolding blocks
-block<blocks c g a l u = block-lt (c .bot) a (c .top) (g .botMultiple) (g .topMultiple) l u
-
-pub in-heap : (c : Config) → GoodConfig c → (a : RamByte) → c .bot .0 ≤ a .0 → heapBlock c ≤ blockOf (c .bot) a → blockOf (c .bot) a < safeBlock c
-    → (c .heap .0 ≤ a .0) × (a .0 < c .safe .0)
-unfolding safeBlock
-in-heap c g a b l u =
-    (omega (arith, heap-start g, start-mono (c .bot) l, start-le (c .bot) a b), lt-block (c .bot) a (c .safe) u)
-
 module _ (s : State) (ram : List ℕ) (gs : List Segment) (ks : List OpenCall) (h : Holds s ram gs ks) where
   -- a block whose owner is a module lies in the heap
   pub owned-in-heap : (k : ℕ) → k < blocks (s .config) → ownerOf (codeOf (s .config .bot) ram k) < trusted
@@ -103,9 +91,9 @@ module _ (s : State) (ram : List ℕ) (gs : List Segment) (ks : List OpenCall) (
       (λ t.
       let u : a .0 < c .top .0 = ltb-true _ _ t in
       let k : ℕ = blockOf (c .bot) a in
-      let fits : k < blocks c = block<blocks c g a (o .fromBot) u in
+      let fits : k < blocks c = to-top g a (o .fromBot) u in
       let (l, r) = owned-in-heap k fits (omega (arith, o .ownBlock u, o .module<trusted)) in
-      let (from, to) = in-heap c g a (o .fromBot) l r in
+      let (from, to) = in-heap g a (o .fromBot) l r in
       elim place [
         | inl m ↦ omega (arith, m .1, from, g .map≤heap)
         | inr m ↦ omega (arith, m .0, to)

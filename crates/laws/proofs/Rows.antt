@@ -1,4 +1,4 @@
--- Answers: what it takes to pass the rows of a table of refusals, and what an operation gives by its answer.
+-- A table of refusals as a list of rows: what is done has passed each of them. And the answer that an operation gives.
 -- Assumes nothing.
 use Prim.Native.Nat.{ℕ}
 use mathlib.Core.Path.{_≡_, refl}
