@@ -29,7 +29,7 @@ use Rattle.promises.specs.Calls.{Kind, OpenCall, cross, openCalls}
 use Rattle.promises.specs.Promise.{_∈_, StoredByHolder, AbovePointer}
 use Rattle.promises.proofs.Row.{row-in-heap}
 use Rattle.promises.proofs.Shown.{member-owner, member-later}
-use Rattle.promises.proofs.Holds.{LeftBy, Chain, Holds}
+use Rattle.promises.proofs.Holds.{LeftBy, Chain, HoldsAfter}
 use Rattle.promises.proofs.Store.{storeRows, OwnStore, stored}
 use Rattle.promises.proofs.Call.{call-holds}
 use Rattle.promises.proofs.Return.{return-holds}
@@ -61,37 +61,24 @@ chain-bound c d b (j ∷ js) r k (inl q) p e =
 chain-bound c d b (j ∷ js) r k (inr m) p e =
     omega (arith, r .0 .bound≤, chain-bound c (j .domain) (j .bound) js (r .1) k m p e)
 
--- a store by domain d is made while d is current
-pub stored-domain : (h : History) (o : Operation) (x d : ℕ) → StoredBy h o x d → domainOf h ≡ d
-stored-domain h (store a b) x d w = w .2
-stored-domain h (call table t site p) x d w = absurd w
-stored-domain h return x d w = absurd w
-stored-domain h (malloc size) x d w = absurd w
-stored-domain h (free a) x d w = absurd w
-stored-domain h (change a e) x d w = absurd w
-
-module _ (h : History) (i : Holds (stateOf h) (ramOf h) (ledger h) (openCalls h)) where
+module _ (h : History) (i : HoldsAfter h) where
   touched : (o : Operation) (x : ℕ) → (InMap (stateOf h .config) x ⊎ InSafeStack (stateOf h .config) x → ⊥)
       → byteAt (h then o) x ≢ byteAt h x → StoredBy h o x (domainOf h)
   unfolding after
-  touched (store a b) x out n = let (q, e) = store-touches (stateOf h) (ramOf h) a b x n in (q, e, refl)
-  touched (call table t site p) x out n = n (call-holds (stateOf h) (ramOf h) (ledger h) (openCalls h) i table t site p .1 x out)
-  touched return x out n = n (return-holds (stateOf h) (ramOf h) (ledger h) (openCalls h) i .1 x out)
-  touched (malloc size) x out n = n (malloc-holds (stateOf h) (ramOf h) (ledger h) (openCalls h) i size .1 x out)
-  touched (free a) x out n = n (free-holds (stateOf h) (ramOf h) (ledger h) (openCalls h) i a .1 x out)
-  touched (change a d) x out n = n (change-holds (stateOf h) (ramOf h) (ledger h) (openCalls h) i a d .1 x out)
+  touched (store a b) x out n =
+      let (q, e) = store-touches (stateOf h) (ramOf h) a b x n in
+      (b, ap (λ (y : ℕ). store (ramByte y) b) q, e, refl)
+  touched (call table t site p) x out n = absurd (n (call-holds (stateOf h) (ramOf h) (ledger h) (openCalls h) i table t site p .1 x out))
+  touched return x out n = absurd (n (return-holds (stateOf h) (ramOf h) (ledger h) (openCalls h) i .1 x out))
+  touched (malloc size) x out n = absurd (n (malloc-holds (stateOf h) (ramOf h) (ledger h) (openCalls h) i size .1 x out))
+  touched (free a) x out n = absurd (n (free-holds (stateOf h) (ramOf h) (ledger h) (openCalls h) i a .1 x out))
+  touched (change a d) x out n = absurd (n (change-holds (stateOf h) (ramOf h) (ledger h) (openCalls h) i a d .1 x out))
 
   -- by the trusted domain, or by a module that may
-  by-whom : (o : Operation) (x : ℕ) → StoredBy h o x (domainOf h)
-      → (domainOf h ≡ trusted) ⊎ ((a : RamByte) × (a .0 ≡ x) × OwnStore (stateOf h) (ramOf h) a)
-  by-whom (store a b) x w =
-      let e : storeAnswer (stateOf h) (ramOf h) a ≡ Done 0 = sym (give-answer _ (stateOf h) (ramOf h) (stateOf h) _) ∙ w .1 in
-      ⊎-elim inl (λ u. inr (a, w .0, u)) (stored (stateOf h) (ramOf h) a 0 (i .good .domain≤trusted) e .1)
-  by-whom (call table t site p) x w = absurd w
-  by-whom return x w = absurd w
-  by-whom (malloc size) x w = absurd w
-  by-whom (free a) x w = absurd w
-  by-whom (change a d) x w = absurd w
+  by-whom : (o : Operation) (x d : ℕ) → StoredBy h o x d → (domainOf h ≡ trusted) ⊎ OwnStore (stateOf h) (ramOf h) (ramByte x)
+  by-whom o x d (b, e, done, _) =
+      let a : storeOf (stateOf h) (ramOf h) (ramByte x) b .answer ≡ Done 0 = rw e at done in
+      stored (stateOf h) (ramOf h) (ramByte x) 0 (i .good .domain≤trusted) (sym (give-answer _ (stateOf h) (ramOf h) (stateOf h) _) ∙ a) .1
 
   -- ---- a segment's bytes
 
@@ -141,11 +128,10 @@ module _ (h : History) (i : Holds (stateOf h) (ramOf h) (ledger h) (openCalls h)
       ]) n in
       ⊎-elim
       (λ t. inr (subst (λ (d : ℕ). StoredBy h o x d) t w))
-      (λ (a, e, own).
-      let q′ : InSegment g (a .0) = subst (λ (y : ℕ). InSegment g y) (sym e) q in
-      let d : domainOf h ≡ g .owner = sym (own .ownBlock (omega (arith, e, to, good .safe≤top))) ∙ segment-owner g m a q′ in
+      (λ own.
+      let d : domainOf h ≡ g .owner = sym (own .ownBlock (omega (arith, to, good .safe≤top))) ∙ segment-owner g m (ramByte x) q in
       inl (subst (λ (d : ℕ). StoredBy h o x d) d w))
-      (by-whom o x w)
+      (by-whom o x (domainOf h) w)
 
   -- ---- stack bytes above the pointer of an open cross-domain call
 
@@ -164,8 +150,8 @@ module _ (h : History) (i : Holds (stateOf h) (ramOf h) (ledger h) (openCalls h)
       ]) n in
       ⊎-elim
       (λ d. subst (λ (d : ℕ). StoredBy h o x d) d w)
-      (λ (a, q, own). absurd (omega (arith, q, own .toBound (omega (arith, q)))))
-      (by-whom o x w)
+      (λ own. absurd (omega (arith, own .toBound t)))
+      (by-whom o x (domainOf h) w)
 
 -- ---- a stretch: what no operation of it changes stays
 

@@ -21,10 +21,10 @@ use Rattle.laws.proofs.Tests.{byTest}
 use Rattle.laws.proofs.AllBelow.{AllBelow}
 use Rattle.laws.proofs.Map.{mapByte-ge, mapByte-lt, code-of-byte, length-setCodes, codes-outside, codes-inside, setCodes-outside, setCodes-bytes}
 use Rattle.laws.proofs.Good.{GoodConfig, GoodState, safeBlock≤blocks, blocks≤places, place<heap}
-use Rattle.promises.specs.History.{InMap, InSafeStack, Bytes}
+use Rattle.promises.specs.History.{History, stateOf, ramOf, InMap, InSafeStack, Bytes}
 use Rattle.promises.specs.Operations.{Operation}
-use Rattle.promises.specs.Ledger.{Segment, booked, codeBy}
-use Rattle.promises.specs.Calls.{Kind, local, cross, OpenCall, noted, framesOf}
+use Rattle.promises.specs.Ledger.{Segment, booked, ledger, codeBy}
+use Rattle.promises.specs.Calls.{Kind, local, cross, OpenCall, noted, openCalls, framesOf}
 use Rattle.promises.proofs.Row.{Row}
 use Rattle.promises.proofs.Shown.{Codes}
 
@@ -59,6 +59,9 @@ pub record Holds (s : State) (ram : List ℕ) (gs : List Segment) (ks : List Ope
       → codeOf (s .config .bot) ram k ≡ setUpCode (s .config) k
   pub frames : slice (s .config .safe .0) (s .safepointer .0) ram ≡ framesOf ks
   pub chain : Chain (s .config) (s .domain) (s .bound) ks
+
+abbrev pub HoldsAfter : History → Type 0
+HoldsAfter h = Holds (stateOf h) (ramOf h) (ledger h) (openCalls h)
 
 -- ram′ differs from ram in the map and the safe stack area alone
 abbrev pub Elsewhere : Config → List ℕ → List ℕ → Type 0

@@ -23,10 +23,10 @@ use Rattle.promises.specs.Calls.{openCalls}
 use Rattle.promises.specs.Promise.{_∈_}
 use Rattle.promises.specs.Incident.{NoIncident}
 use Rattle.promises.proofs.Row.{row-in-heap}
-use Rattle.promises.proofs.Holds.{Holds}
+use Rattle.promises.proofs.Holds.{HoldsAfter}
 use Rattle.promises.proofs.Free.{freeRows, SegmentAt, segment-at}
 use Rattle.promises.proofs.Steps.{always}
-use Rattle.promises.proofs.Change.{segment-step, segment-place, segment-owner, stored-domain, unchanged}
+use Rattle.promises.proofs.Change.{segment-step, segment-place, segment-owner, unchanged}
 use Rattle.promises.proofs.Keeping.{segment-stays}
 
 -- a history is as assumed at each moment of it
@@ -37,7 +37,7 @@ earlier P from a (next before p) = earlier P from (a .0) before
 -- who frees is no trusted domain, which has no segment
 freed-by-module : (h : History) → Assumed h → (a : RamByte) (n : ℕ) → answerTo h (free a) ≡ Done n → domainOf h ≢ trusted
 freed-by-module h assumed a n done d =
-    let i : Holds (stateOf h) (ramOf h) (ledger h) (openCalls h) = always h assumed .1 in
+    let i : HoldsAfter h = always h assumed .1 in
     let c : Config = stateOf h .config in
     let (t, _) =
     passed (freeRows (stateOf h) (ramOf h) a) (Done (blocksAt (stateOf h) (ramOf h) a)) n
@@ -47,7 +47,7 @@ freed-by-module h assumed a n done d =
     let own : ownerAt (stateOf h) (ramOf h) a ≡ domainOf h = eqb-true _ _ (not-false _ (t .1 .1 .1 .0)) in
     omega (arith, d, own, at .owner, row-in-heap c (heapBlock c) (ledger h) (i .row) (at .segment) (at .member) .byModule)
 
-module _ (h : History) (i : Holds (stateOf h) (ramOf h) (ledger h) (openCalls h)) (g : Segment) (m : g ∈ ledger h)
+module _ (h : History) (i : HoldsAfter h) (g : Segment) (m : g ∈ ledger h)
     (other : domainOf h ≢ g .owner) (module-current : domainOf h ≢ trusted) where
   refused-store : (x : ℕ) → InSegment g x → (b : ℕ) → answerTo h (store (ramByte x) b) ≡ Refused OtherOwner
   refused-store x q b =
@@ -69,11 +69,11 @@ module _ (h : History) (i : Holds (stateOf h) (ramOf h) (ledger h) (openCalls h)
   same-bytes : (x : ℕ) → InSegment g x → (o : Operation) → byteAt (h then o) x ≡ byteAt h x
   same-bytes x q o =
       unchanged _ _ (segment-step h i g m x q o)
-      (⊎-elim (λ w. other (stored-domain h o x (g .owner) w)) (λ w. module-current (stored-domain h o x trusted w)))
+      (⊎-elim (λ w. other (w .3)) (λ w. module-current (w .3)))
 
 pub incident : NoIncident
 incident h a d g p current =
-    let i : Holds (stateOf h) (ramOf h) (ledger h) (openCalls h) = always h a .1 in
+    let i : HoldsAfter h = always h a .1 in
     let other : domainOf h ≢ g .owner = λ e. p .another (sym e ∙ current) in
     let once : Assumed (p .once) = earlier _ _ a (p .since) .0 in
     let module-current : domainOf h ≢ trusted =

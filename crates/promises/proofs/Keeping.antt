@@ -22,7 +22,7 @@ use Rattle.promises.specs.Ledger.{Segment, entered, replacedAt, struck, 
 use Rattle.promises.specs.Calls.{OpenCall, openCalls}
 use Rattle.promises.specs.Promise.{_∈_}
 use Rattle.promises.proofs.Shown.{member-owner}
-use Rattle.promises.proofs.Holds.{Holds}
+use Rattle.promises.proofs.Holds.{Holds, HoldsAfter}
 use Rattle.promises.proofs.Free.{freeRows, changeRows}
 
 -- ---- the lists
@@ -75,7 +75,7 @@ by-answer : (d : ℕ) (o : Operation) (gs : List Segment) (g : Segment) → g �
 by-answer d o gs g m (Refused r) done = m
 by-answer d o gs g m (Done v) done = done v refl
 
-pub segment-stays : (h : History) → Holds (stateOf h) (ramOf h) (ledger h) (openCalls h)
+pub segment-stays : (h : History) → HoldsAfter h
     → (g : Segment) → g ∈ ledger h → domainOf h ≢ g .owner → (o : Operation) → g ∈ ledger (h then o)
 unfolding ledger
 segment-stays h i g m n o = by-answer (domainOf h) o (ledger h) g m (answerTo h o) (done o)

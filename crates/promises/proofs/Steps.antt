@@ -21,7 +21,7 @@ use Rattle.promises.specs.Operations.{Operation, store, call, return, ma
 use Rattle.promises.specs.History.{History, setUp, _then_, after, stateOf, ramOf, configOf, StoredBy, InMap, InSafeStack, Assumed}
 use Rattle.promises.specs.Ledger.{ledger}
 use Rattle.promises.specs.Calls.{openCalls}
-use Rattle.promises.proofs.Holds.{Holds, After}
+use Rattle.promises.proofs.Holds.{After, HoldsAfter}
 use Rattle.promises.proofs.SetUp.{set-up-holds}
 use Rattle.promises.proofs.Store.{store-holds}
 use Rattle.promises.proofs.Call.{call-holds}
@@ -51,11 +51,11 @@ step-config s ram (change a d) = give-config (changeAnswer s ram a d) s ram s _ 
 
 -- ---- one operation
 
-step-holds : (h : History) → Holds (stateOf h) (ramOf h) (ledger h) (openCalls h) → (o : Operation) → Fits o
+step-holds : (h : History) → HoldsAfter h → (o : Operation) → Fits o
     → ((x : ℕ) → StoredBy h o x trusted → InMap (stateOf h .config) x ⊎ InSafeStack (stateOf h .config) x → ⊥)
     → After (stateOf h) (ledger h) (openCalls h) o (step (stateOf h) (ramOf h) o)
 step-holds h i (store a b) fits quiet =
-    store-holds (stateOf h) (ramOf h) (ledger h) (openCalls h) i a b (fits .1) (λ e d. quiet (a .0) (refl, e, d))
+    store-holds (stateOf h) (ramOf h) (ledger h) (openCalls h) i a b (fits .1) (λ e d. quiet (a .0) (b, refl, e, d))
 step-holds h i (call table t site p) fits quiet = call-holds (stateOf h) (ramOf h) (ledger h) (openCalls h) i table t site p .0
 step-holds h i return fits quiet = return-holds (stateOf h) (ramOf h) (ledger h) (openCalls h) i .0
 step-holds h i (malloc size) fits quiet = malloc-holds (stateOf h) (ramOf h) (ledger h) (openCalls h) i size .0
@@ -64,7 +64,7 @@ step-holds h i (change a d) fits quiet = change-holds (stateOf h) (ramOf h) (led
 
 -- ---- every history
 
-pub always : (h : History) → Assumed h → (stateOf h .config ≡ configOf h) × Holds (stateOf h) (ramOf h) (ledger h) (openCalls h)
+pub always : (h : History) → Assumed h → (stateOf h .config ≡ configOf h) × HoldsAfter h
 unfolding after configOf ledger openCalls
 always (setUp c ram) a = set-up-holds c ram (a .0) (a .1)
 always (h then o) a =

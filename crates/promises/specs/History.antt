@@ -10,9 +10,10 @@ use Rattle.rules.specs.declared.State.{State}
 use Rattle.rules.specs.declared.Answer.{Answer}
 use Rattle.rules.specs.declared.Answer.the-variants.{Done}
 use Rattle.rules.specs.Memory.{mapBytes, trusted}
+use Rattle.rules.specs.State.{ramByte}
 use Rattle.rules.specs.Answers.{Given}
 use Rattle.rules.specs.SetUp.{setUpOf}
-use Rattle.promises.specs.Operations.{Operation, store, call, return, malloc, free, change, Fits, step}
+use Rattle.promises.specs.Operations.{Operation, store, Fits, step}
 
 infixl 5 _then_
 -- read from left to right: `setUp c ram then malloc 20 then return`
@@ -47,14 +48,9 @@ byteAt h x = getD (ramOf h) x 0
 abbrev pub answerTo : History → Operation → Answer
 answerTo h o = step (stateOf h) (ramOf h) o .answer
 
--- the operation asked next is a store to address x, and it is carried out while domain d is current
+-- the operation asked next stores some byte b to address x, and is carried out while domain d is current
 abbrev pub StoredBy : History → Operation → ℕ → ℕ → Type 0
-StoredBy h (store a b) x d = (a .0 ≡ x) × (answerTo h (store a b) ≡ Done 0) × (domainOf h ≡ d)
-StoredBy h (call table t site p) x d = ⊥
-StoredBy h return x d = ⊥
-StoredBy h (malloc size) x d = ⊥
-StoredBy h (free a) x d = ⊥
-StoredBy h (change a e) x d = ⊥
+StoredBy h o x d = (b : ℕ) × (o ≡ store (ramByte x) b) × (answerTo h o ≡ Done 0) × (domainOf h ≡ d)
 
 -- address x lies in the map; in the safe stack area
 abbrev pub InMap : Config → ℕ → Type 0
