@@ -13,7 +13,7 @@ use Rattle.rules.specs.Return.{returnOf}
 use Rattle.rules.specs.Malloc.{mallocOf}
 use Rattle.rules.specs.Free.{freeOf, changeOf}
 
--- each call brings the table that is lent to it
+-- Each call brings the table that is lent to it. (An operation of a script, section 7, has none: one table is lent to all its calls.)
 pub data Operation : Type 0 where
   store : (address : RamByte) (byte : ℕ) → Operation
   call : (table : List ℕ) (target site : FlashWord) (pointer : RamByte) → Operation
