@@ -5,29 +5,26 @@ use mathlib.Core.Path.{_≡_, refl, sym, _∙_}
 use mathlib.Core.Logic.{⊎-elim, _≢_}
 use native.Mathlib.Omega.{arith}
 use lib.ListN.{length}
-use borrow.Author.Tests.{eq-eqb, eqb-true, ne-eqb, lt-leb, lt-ltb, le-ltb, not-false}
+use borrow.Author.Tests.{eq-eqb, ne-eqb, lt-leb, lt-ltb, le-ltb}
 use Rattle.rules.specs.declared.RamByte.{RamByte}
 use Rattle.rules.specs.declared.Config.{Config}
 use Rattle.rules.specs.declared.Answer.the-variants.{Done, Refused}
 use Rattle.rules.specs.declared.Refusal.the-variants.{OtherOwner}
 use Rattle.rules.specs.Memory.{ramBytes, heapBlock, trusted}
 use Rattle.rules.specs.State.{ramByte}
-use Rattle.rules.specs.Store.{ownerAt, storeAnswer}
-use Rattle.rules.specs.Free.{blocksAt, freeAnswer}
-use Rattle.laws.proofs.Rows.{passed, give-answer}
+use Rattle.rules.specs.Store.{storeAnswer}
+use Rattle.laws.proofs.Rows.{give-answer}
 use Rattle.laws.proofs.Good.{GoodConfig, goodState-true, bot<heap}
 use Rattle.promises.specs.Operations.{Operation, store, free}
 use Rattle.promises.specs.History.{History, _then_, stateOf, ramOf, domainOf, byteAt, answerTo, Assumed, Stretch, none, next}
 use Rattle.promises.specs.Ledger.{Segment, ledger, InSegment}
-use Rattle.promises.specs.Calls.{openCalls}
 use Rattle.promises.specs.Promise.{_∈_}
 use Rattle.promises.specs.Incident.{NoIncident}
 use Rattle.promises.proofs.Row.{row-in-heap}
 use Rattle.promises.proofs.Holds.{HoldsAfter}
-use Rattle.promises.proofs.Free.{freeRows, SegmentAt, segment-at}
 use Rattle.promises.proofs.Steps.{always}
 use Rattle.promises.proofs.Change.{segment-step, segment-place, segment-owner, unchanged}
-use Rattle.promises.proofs.Keeping.{segment-stays}
+use Rattle.promises.proofs.Keeping.{segment-stays, freed-own}
 
 -- a history is as assumed at each moment of it
 earlier : (P : History → Operation → Type 0) (from : History) {h : History} → Assumed h → Stretch P from h → Assumed from
@@ -39,13 +36,8 @@ freed-by-module : (h : History) → Assumed h → (a : RamByte) (n : ℕ) → an
 freed-by-module h assumed a n done d =
     let i : HoldsAfter h = always h assumed .1 in
     let c : Config = stateOf h .config in
-    let (t, _) =
-    passed (freeRows (stateOf h) (ramOf h) a) (Done (blocksAt (stateOf h) (ramOf h) a)) n
-    (sym (give-answer (freeAnswer (stateOf h) (ramOf h) a) (stateOf h) (ramOf h) (stateOf h) _) ∙ done) in
-    let at : SegmentAt (stateOf h) (ramOf h) (ledger h) a =
-    segment-at (stateOf h) (ramOf h) (ledger h) (openCalls h) i a (not-false _ (t .1 .1 .0)) in
-    let own : ownerAt (stateOf h) (ramOf h) a ≡ domainOf h = eqb-true _ _ (not-false _ (t .1 .1 .1 .0)) in
-    omega (arith, d, own, at .owner, row-in-heap c (heapBlock c) (ledger h) (i .row) (at .segment) (at .member) .byModule)
+    let (g, m, _, _, own) = freed-own h i a n done in
+    omega (arith, d, own, row-in-heap c (heapBlock c) (ledger h) (i .row) g m .byModule)
 
 module _ (h : History) (i : HoldsAfter h) (g : Segment) (m : g ∈ ledger h)
     (other : domainOf h ≢ g .owner) (module-current : domainOf h ≢ trusted) where

@@ -1,8 +1,10 @@
--- A segment is given up by its own domain alone: while another is current, every operation leaves it in the ledger.
+-- A segment is given up by its own domain alone: while another is current, every operation leaves it in the ledger; and a free or a change
+-- that is accepted is of a segment of the domain that asks.
 -- Assumes nothing.
 use Prim.Native.Nat.{ℕ}
 use mathlib.Core.Path.{_≡_, refl, sym, ap, _∙_}
 use mathlib.Core.Logic.{inl, inr, _≢_}
+use mathlib.Core.Bool.{true}
 use mathlib.Core.List.{List, [], _∷_, _++_}
 use lib.Dec.{ltb, eqb}
 use borrow.Author.Tests.{eqb-true, not-false, ne-eqb}
@@ -13,17 +15,17 @@ use Rattle.rules.specs.declared.Answer.the-variants.{Done, Refused}
 use Rattle.rules.specs.Memory.{blockOf, heapBlock, codeOf, ownerOf}
 use Rattle.rules.specs.State.{ramByte}
 use Rattle.rules.specs.Store.{ownerAt}
-use Rattle.rules.specs.Free.{blocksAt, freeAnswer, changeAnswer}
+use Rattle.rules.specs.Free.{isSegment, blocksAt, freeAnswer, changeAnswer}
 use Rattle.laws.proofs.Tests.{byTest}
 use Rattle.laws.proofs.Rows.{passed, give-answer}
 use Rattle.promises.specs.Operations.{Operation, store, call, return, malloc, free, change}
 use Rattle.promises.specs.History.{History, _then_, stateOf, ramOf, domainOf, answerTo}
 use Rattle.promises.specs.Ledger.{Segment, entered, replacedAt, struck, madeOver, booked, ledger}
 use Rattle.promises.specs.Calls.{OpenCall, openCalls}
-use Rattle.promises.specs.Promise.{_∈_}
+use Rattle.promises.specs.Promise.{_∈_, OwnSegment}
 use Rattle.promises.proofs.Shown.{member-owner}
 use Rattle.promises.proofs.Holds.{Holds, HoldsAfter}
-use Rattle.promises.proofs.Free.{freeRows, changeRows}
+use Rattle.promises.proofs.Free.{freeRows, changeRows, SegmentAt, segment-at}
 
 -- ---- the lists
 
@@ -89,3 +91,27 @@ segment-stays h i g m n o = by-answer (domainOf h) o (ledger h) g m (answerTo h 
         free-stays (stateOf h) (ramOf h) (ledger h) (openCalls h) i g m n a v (sym (give-answer _ (stateOf h) (ramOf h) (stateOf h) _) ∙ e)
     done (change a d) v e =
         change-stays (stateOf h) (ramOf h) (ledger h) (openCalls h) i g m n a d v (sym (give-answer _ (stateOf h) (ramOf h) (stateOf h) _) ∙ e)
+
+-- ---- what is given up is the domain's own
+
+module _ (h : History) (i : HoldsAfter h) (a : RamByte) (n : ℕ) where
+  own-segment : isSegment (stateOf h .config) (ramOf h) a ≡ true → ownerAt (stateOf h) (ramOf h) a ≡ domainOf h
+      → Done (blocksAt (stateOf h) (ramOf h) a) ≡ Done n → OwnSegment h a n
+  own-segment t own last =
+      let at : SegmentAt (stateOf h) (ramOf h) (ledger h) a = segment-at (stateOf h) (ramOf h) (ledger h) (openCalls h) i a t in
+      let count : blocksAt (stateOf h) (ramOf h) a ≡ n = cc in
+      (at .segment, at .member, at .address, sym (at .count) ∙ count, sym (at .owner) ∙ own)
+
+  pub freed-own : answerTo h (free a) ≡ Done n → OwnSegment h a n
+  freed-own e =
+      let (t, last) =
+      passed (freeRows (stateOf h) (ramOf h) a) (Done (blocksAt (stateOf h) (ramOf h) a)) n
+      (sym (give-answer _ (stateOf h) (ramOf h) (stateOf h) _) ∙ e) in
+      own-segment (not-false _ (t .1 .1 .0)) (eqb-true _ _ (not-false _ (t .1 .1 .1 .0))) last
+
+  pub changed-own : (d : ℕ) → answerTo h (change a d) ≡ Done n → OwnSegment h a n
+  changed-own d e =
+      let (t, last) =
+      passed (changeRows (stateOf h) (ramOf h) a d) (Done (blocksAt (stateOf h) (ramOf h) a)) n
+      (sym (give-answer _ (stateOf h) (ramOf h) (stateOf h) _) ∙ e) in
+      own-segment (not-false _ (t .1 .1 .0)) (eqb-true _ _ (not-false _ (t .1 .1 .1 .0))) last

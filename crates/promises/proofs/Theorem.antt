@@ -6,7 +6,7 @@ use native.Mathlib.Omega.{arith}
 use Rattle.rules.specs.declared.Config.{Config}
 use Rattle.rules.specs.Memory.{heapBlock, safeBlock, trusted}
 use Rattle.laws.proofs.Good.{goodState-true, heapBlock≤safeBlock}
-use Rattle.promises.specs.History.{History, stateOf, ramOf, StoredBy, Assumed}
+use Rattle.promises.specs.History.{stateOf, ramOf, StoredBy}
 use Rattle.promises.specs.Ledger.{ledger}
 use Rattle.promises.specs.Calls.{openCalls}
 use Rattle.promises.specs.Promise.{_∈_, IsHeapBlock, StoredByHolder, Demand3}
@@ -14,7 +14,7 @@ use Rattle.promises.proofs.Row.{row-apart, row-in-heap}
 use Rattle.promises.proofs.Shown.{row-shown}
 use Rattle.promises.proofs.Return.{return-gives}
 use Rattle.promises.proofs.Steps.{always}
-use Rattle.promises.proofs.Keeping.{segment-stays}
+use Rattle.promises.proofs.Keeping.{segment-stays, freed-own, changed-own}
 use Rattle.promises.proofs.Change.{segment-step, stack-step, stretch-same, unchanged}
 
 outside : (c : Config) (k : ℕ) → (IsHeapBlock c k → ⊥) → heapBlock c ≤ k → safeBlock c ≤ k
@@ -30,6 +30,8 @@ promise h a =
       apart = rw (← e) (row-apart (stateOf h .config) _ (ledger h) (i .row));
       inHeap = rw (← e) (row-in-heap (stateOf h .config) _ (ledger h) (i .row));
       stays = segment-stays h i;
+      freed = freed-own h i;
+      changed = λ a d n. changed-own h i a n d;
       safeStack = rw (← e) (i .frames);
       returns = return-gives (stateOf h) (ramOf h) (ledger h) (openCalls h) i;
       segmentStep = segment-step h i;

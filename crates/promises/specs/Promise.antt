@@ -14,12 +14,13 @@ use lib.ListN.{length}
 use lib.Seq.{slice}
 use Rattle.rules.specs.declared.RamByte.{RamByte}
 use Rattle.rules.specs.declared.Config.{Config}
+use Rattle.rules.specs.declared.Answer.the-variants.{Done}
 use Rattle.rules.specs.Memory.{ramBytes, heapBlock, safeBlock, mapBytes, perByte, codeOf, trusted}
 use Rattle.rules.specs.State.{goodState}
 use Rattle.rules.specs.SetUp.{setUpCode}
 use Rattle.rules.specs.Return.{returnOf}
-use Rattle.promises.specs.Operations.{Operation}
-use Rattle.promises.specs.History.{History, _then_, stateOf, ramOf, configOf, domainOf, byteAt, StoredBy, Bytes, Assumed, Stretch}
+use Rattle.promises.specs.Operations.{Operation, free, change}
+use Rattle.promises.specs.History.{History, _then_, stateOf, ramOf, configOf, domainOf, answerTo, byteAt, StoredBy, Bytes, Assumed, Stretch}
 use Rattle.promises.specs.Ledger.{Segment, ledger, InSegment, InHeap, Apart, codeBy, shown}
 use Rattle.promises.specs.Calls.{OpenCall, cross, openCalls, framesOf, Returns}
 
@@ -35,6 +36,10 @@ IsHeapBlock c k = (heapBlock c ≤ k) × (k < safeBlock c)
 -- the code of block k, in the map as it is after h
 abbrev pub codeAfter : History → ℕ → ℕ
 codeAfter h k = codeOf (configOf h .bot) (ramOf h) k
+
+-- at address a starts a segment of n blocks of the domain that is current
+abbrev pub OwnSegment : History → RamByte → ℕ → Type 0
+OwnSegment h a n = (g : Segment) × (g ∈ ledger h) × (g .address ≡ a .0) × (g .blocks ≡ n) × (g .owner ≡ domainOf h)
 
 -- the operation asked next is a store to x that is carried out while the segment's domain, or the trusted one, is current
 abbrev pub StoredByHolder : Segment → ℕ → History → Operation → Type 0
@@ -58,6 +63,9 @@ pub record Promise (h : History) : Type 0 where
   pub inHeap : (g : Segment) → g ∈ ledger h → InHeap (configOf h) g
   -- only its own domain gives a segment up: while another is current it stays, whatever is asked next
   pub stays : (g : Segment) → g ∈ ledger h → domainOf h ≢ g .owner → (o : Operation) → g ∈ ledger (h then o)
+  -- a free or a change of owner that is accepted is of a segment of the domain that asks, and its value is how many blocks that has
+  pub freed : (a : RamByte) (n : ℕ) → answerTo h (free a) ≡ Done n → OwnSegment h a n
+  pub changed : (a : RamByte) (d n : ℕ) → answerTo h (change a d) ≡ Done n → OwnSegment h a n
   -- "the safe stack holds exactly the open calls, oldest first": the bytes from safe to the safe pointer are their frames
   pub safeStack : slice (configOf h .safe .0) (stateOf h .safepointer .0) (ramOf h) ≡ framesOf (openCalls h)
   -- "a return is refused only when there are none, and otherwise restores its own call's address, domain and bound"
