@@ -53,9 +53,9 @@ either P false h k = k
 setUpCode-by : (P : ℕ → Type 0) → P (startCode trusted) → P (laterCode trusted) → P freeCode → (c : Config) (k : ℕ) → P (setUpCode c k)
 unfolding setUpCode
 setUpCode-by P first other free c k =
-    either P (eqb k 0) first
-    (either P (ltb k (heapBlock c)) other
-    (either P (ltb k (safeBlock c)) free (either P (eqb k (safeBlock c)) first (either P (ltb k (blocks c)) other free))))
+    either P (eqb k 0) (search)
+    (either P (ltb k (heapBlock c)) (search)
+    (either P (ltb k (safeBlock c)) (search) (either P (eqb k (safeBlock c)) (search) (either P (ltb k (blocks c)) (search) (search)))))
 
 pub setUpCode-lt : (c : Config) (k : ℕ) → setUpCode c k < radix
 setUpCode-lt =

@@ -35,7 +35,7 @@ radix-fills = refl
 
 pub mapDigit-lt : (k : ℕ) → mapDigit k < perByte
 unfolding mapDigit
-mapDigit-lt k = mod-lt k perByte-pos
+mapDigit-lt k = mod-lt _ perByte-pos
 
 -- n codes fit the bytes for n
 pub map-room : (n : ℕ) → n ≤ mapBytesFor n * perByte
