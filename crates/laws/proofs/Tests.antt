@@ -1,7 +1,8 @@
 -- Tests: deciding by one, and taking a conjunction or a disjunction apart.
 -- Assumes nothing.
-use mathlib.Core.Path.{_≡_, refl}
-use mathlib.Core.Bool.{Bool, true, false, not, _&&_, _||_, true≢false, false≢true}
+use mathlib.Core.Path.{_≡_, refl, sym, _∙_}
+use mathlib.Core.Bool.{Bool, true, false, not, _&&_, _||_, and-false, true≢false, false≢true}
+use borrow.Author.Tests.{not-true, not-false}
 
 -- a goal by the two outcomes of a test
 pub byTest : {C : Type 0} (t : Bool) → (t ≡ true → C) → (t ≡ false → C) → C
@@ -23,3 +24,20 @@ neither false b h = (refl, h)
 pub or-false : (a b : Bool) → a ≡ false → b ≡ false → (a || b) ≡ false
 or-false true b g h = absurd (true≢false g)
 or-false false b g h = h
+
+-- a function answered r, its rule says t, and the caller tested r
+pub failed : {r t : Bool} → r ≡ t → not r ≡ true → t ≡ false
+failed {r} e h = sym e ∙ not-true r h
+
+pub passed : {r t : Bool} → r ≡ t → not r ≡ false → t ≡ true
+passed {r} e h = sym e ∙ not-false r h
+
+-- a conjunction by one of its sides
+pub left-false : (a b : Bool) → a ≡ false → (a && b) ≡ false
+left-false a b h = rw h
+
+pub right-false : (a b : Bool) → b ≡ false → (a && b) ≡ false
+right-false a b h = rw (h, and-false)
+
+pub left-true : (a b : Bool) → a ≡ true → (a && b) ≡ b
+left-true a b h = rw h
