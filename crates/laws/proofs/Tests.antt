@@ -1,6 +1,7 @@
 -- Tests: deciding by one, and taking a conjunction or a disjunction apart.
 -- Assumes nothing.
 use mathlib.Core.Path.{_≡_, refl, sym, _∙_}
+use mathlib.Core.List.{List, [], _∷_}
 use mathlib.Core.Bool.{Bool, true, false, not, _&&_, _||_, and-false, true≢false, false≢true}
 use borrow.Author.Tests.{not-true, not-false}
 
@@ -24,6 +25,28 @@ neither false b h = (refl, h)
 pub or-false : (a b : Bool) → a ≡ false → b ≡ false → (a || b) ≡ false
 or-false true b g h = absurd (true≢false g)
 or-false false b g h = h
+
+-- ---- a chain of tests, t && u && ..: where it holds, each of them does
+
+abbrev pub chain : Bool → List Bool → Bool
+chain t [] = t
+chain t (u ∷ us) = chain (t && u) us
+
+abbrev pub Each : Bool → List Bool → Type 0
+Each t [] = t ≡ true
+Each t (u ∷ us) = (t ≡ true) × Each u us
+
+first : (t : Bool) (us : List Bool) → Each t us → t ≡ true
+first t [] e = e
+first t (u ∷ us) e = e .0
+
+pub each : (t : Bool) (us : List Bool) → chain t us ≡ true → Each t us
+each t [] h = h
+each t (u ∷ us) h = split t u us (each (t && u) us h)
+  where
+    split : (t u : Bool) (us : List Bool) → Each (t && u) us → (t ≡ true) × Each u us
+    split true u us e = (refl, e)
+    split false u us e = absurd (false≢true (first false us e))
 
 -- a function answered r, its rule says t, and the caller tested r
 pub failed : {r t : Bool} → r ≡ t → not r ≡ true → t ≡ false
