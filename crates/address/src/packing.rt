@@ -2,7 +2,7 @@
 ghost use mathlib.Core.Path.{_≡_};
 ghost use Rattle.rules.specs.Memory.{mapBytesFor};
 
-const PER_BYTE: u16 = 2;
+pub const PER_BYTE: u16 = 2;
 
 // How many map bytes hold the codes of n blocks: rounded up, and the sum cannot pass 65535.
 pub fn map_bytes_for(n: u16) -> u16
