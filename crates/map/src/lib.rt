@@ -4,19 +4,20 @@ ghost use mathlib.Core.Path.{_≡_};
 ghost use Prim.Native.Nat.{_+_, _-_, _*_, _≤_, _<_};
 ghost use lib.ListN.{length};
 ghost use Rattle.rules.specs.Memory.{ramBytes, radix, mapByte, codeOf, setCode, startCode, laterCode, freeCode, ownerOf, startsSegment, trusted};
-ghost use Rattle.rules.specs.State.{ramByte};
 use address::above;
 use rules::Block;
 use rules::RamByte;
 
 const RADIX: u8 = 16;
+
 const PER_BYTE: u16 = 2;
+
 const FREE: u8 = 15;
 
 // The byte of the map that holds a block's code.
 fn map_byte(bot: RamByte, k: Block) -> RamByte
     requires { ⌜ mapByte bot (k .0) < ramBytes ⌝ }
-    ensures { λ r. ⌜ r ≡ ramByte (mapByte bot (k .0)) ⌝ }
+    ensures { λ r. ⌜ r .0 ≡ mapByte bot (k .0) ⌝ }
 {
     above(bot, k.0 / PER_BYTE)
 }
@@ -28,11 +29,11 @@ pub fn code_of(bot: RamByte, ram: &[u8], k: Block) -> u8
     ensures { λ r. ⌜ r ≡ codeOf bot (now (ram .entry)) (k .0) ⌝ }
 {
     let at = map_byte(bot, k);
-    let i = at.0 as usize;
+    let byte = ram[at.0 as usize];
     if k.0 % PER_BYTE == 0 {
-        return ram[i] % RADIX;
+        return byte % RADIX;
     }
-    ram[i] / RADIX
+    byte / RADIX
 }
 
 // The code of a block made another; the other code of its byte stays.
@@ -43,12 +44,12 @@ pub fn set_code(bot: RamByte, ram: &mut [u8], k: Block, code: u8)
     ensures { λ _. ⌜ now (ram .exit) ≡ setCode bot (now (ram .entry)) (k .0) code ⌝ }
 {
     let at = map_byte(bot, k);
-    let i = at.0 as usize;
+    let byte = ram[at.0 as usize];
     if k.0 % PER_BYTE == 0 {
-        ram[i] = ram[i] / RADIX * RADIX + code;
+        ram[at.0 as usize] = byte / RADIX * RADIX + code;
         return;
     }
-    ram[i] = code * RADIX + ram[i] % RADIX;
+    ram[at.0 as usize] = code * RADIX + byte % RADIX;
 }
 
 pub fn owner_of(code: u8) -> u8

@@ -1,41 +1,26 @@
+-- `map::code_of` meets its contract. Assumes nothing.
+use native.Mathlib.Omega.{arith}
 use borrow.Author.Needs.{needs}
+use Rattle.map.proofs.Halves.{low-half, high-half}
 use Rattle.map.proofs.code_of.Statement.{statement}
 use Rattle.map.proofs.code_of.Tie as tie
-use Rattle.map.proofs.code_of.Reads as reads
-use Rattle.map.proofs.code_of.Lts as lts
-use Rattle.map.proofs.map_byte.Reads as map-byte-reads
 
--- src/lib.rt:30:9
 map-byte-requires : tie.Need-map-byte-requires
 map-byte-requires c κs = search needs
 
--- src/lib.rt:31:13
-cast-i : tie.Need-cast-i
-cast-i c = search needs
+cast-byte : tie.Need-cast-byte
+cast-byte c = search needs
 
--- src/lib.rt:33:16
-shared-slice-read-result : tie.Need-shared-slice-read-result
-shared-slice-read-result c = ?
+shared-slice-read-byte : tie.Need-shared-slice-read-byte
+shared-slice-read-byte c = omega arith
 
--- src/lib.rt:33:9
 returns : tie.Need-returns
-returns c = ?
+returns c = low-half _ _ _ _ (c .before .before .before .before .map-byte .ensures) (c .if1 .taken)
 
--- src/lib.rt:35:5
-shared-slice-read-result-2 : tie.Need-shared-slice-read-result-2
-shared-slice-read-result-2 c = ?
-
--- src/lib.rt:25:1
 returns-2 : tie.Need-returns-2
-returns-2 c = ?
+returns-2 c =
+    high-half _ _ _ _ (c .before .before .before .before .map-byte .ensures) (c .if1 .left) (c .before .before .shared-slice-known2 .given (c .before .before .before .before .map-byte .result .0) .fits)
 
 pub code-of-spec : {M : Type 1} → statement M
 code-of-spec =
-    tie.close
-    (tie.spec
-    map-byte-requires
-    cast-i
-    shared-slice-read-result
-    returns
-    shared-slice-read-result-2
-    returns-2)
+    tie.close (tie.spec map-byte-requires cast-byte shared-slice-read-byte returns returns-2)

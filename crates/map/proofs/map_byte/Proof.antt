@@ -1,16 +1,18 @@
+-- `map::map_byte` meets its contract. Assumes nothing.
+use mathlib.Core.Path.{ap}
+use native.Mathlib.Omega.{arith}
+use Rattle.rules.specs.declared.RamByte.{RamByte}
+use Rattle.rules.specs.Memory.{mapByte, perByte}
 use Rattle.map.proofs.map_byte.Statement.{statement}
 use Rattle.map.proofs.map_byte.Tie as tie
-use Rattle.map.proofs.map_byte.Reads as reads
-use Rattle.map.proofs.map_byte.Lts as lts
-use Rattle.address.proofs.above.Reads as above-reads
 
--- src/lib.rt:21:5
 above-requires : tie.Need-above-requires
-above-requires c κs = ?
+unfolding mapByte perByte
+above-requires c κs = omega arith
 
--- src/lib.rt:17:1
 returns : tie.Need-returns
-returns c = ?
+unfolding mapByte perByte
+returns c = ap (λ (a : RamByte). a .0) (c .above .ensures)
 
 pub map-byte-spec : {M : Type 1} → statement M
 map-byte-spec = tie.close (tie.spec above-requires returns)

@@ -1,81 +1,77 @@
+-- `map::set_code` meets its contract. Assumes nothing.
+use native.Mathlib.Omega.{arith}
+use Rattle.rules.specs.Memory.{radix}
+use Rattle.map.proofs.Halves.{set-low, set-high}
 use borrow.Author.Needs.{needs}
 use Rattle.map.proofs.set_code.Statement.{statement}
 use Rattle.map.proofs.set_code.Tie as tie
-use Rattle.map.proofs.set_code.Reads as reads
-use Rattle.map.proofs.set_code.Lts as lts
-use Rattle.map.proofs.map_byte.Reads as map-byte-reads
 
--- src/lib.rt:45:9
 map-byte-requires : tie.Need-map-byte-requires
 map-byte-requires c κs = search needs
 
--- src/lib.rt:46:13
-cast-i : tie.Need-cast-i
-cast-i c = search needs
+cast-byte : tie.Need-cast-byte
+cast-byte c = search needs
 
--- src/lib.rt:48:18
-slice-read-ram : tie.Need-slice-read-ram
-slice-read-ram c = ?
+slice-read-byte : tie.Need-slice-read-byte
+slice-read-byte c = omega arith
 
--- src/lib.rt:48:18
 mul-ram : tie.Need-mul-ram
-mul-ram c = ?
+unfolding radix
+mul-ram c = omega (arith, (c .before .before .slice-known2 .given (c .before .before .before .before .map-byte .result .0)))
 
--- src/lib.rt:48:18
 add-ram : tie.Need-add-ram
-add-ram c = ?
+unfolding radix
+add-ram c = omega (arith, (c .before .before .slice-known2 .given (c .before .before .before .before .map-byte .result .0)))
 
--- src/lib.rt:48:9
+cast-ram : tie.Need-cast-ram
+cast-ram c = search needs
+
 slice-write-ram : tie.Need-slice-write-ram
-slice-write-ram c = ?
+slice-write-ram c = omega arith
 
--- src/lib.rt:49:9
 same-length : tie.Need-same-length
 same-length c = search needs
 
--- src/lib.rt:49:9
 returns : tie.Need-returns
-returns c = ?
+returns c = set-low _ _ _ _ (c .before .before .before .before .before .map-byte .ensures) _ (c .before .if1 .taken)
 
--- src/lib.rt:51:14
 mul-ram-2 : tie.Need-mul-ram-2
-mul-ram-2 c = ?
+unfolding radix
+mul-ram-2 c = omega (arith, (c .before .before .slice-known2 .given (c .before .before .before .before .map-byte .result .0)))
 
--- src/lib.rt:51:29
-slice-read-ram-2 : tie.Need-slice-read-ram-2
-slice-read-ram-2 c = ?
-
--- src/lib.rt:51:14
 add-ram-2 : tie.Need-add-ram-2
-add-ram-2 c = ?
+unfolding radix
+add-ram-2 c = omega (arith, (c .before .before .slice-known2 .given (c .before .before .before .before .map-byte .result .0)))
 
--- src/lib.rt:51:5
+cast-ram-2 : tie.Need-cast-ram-2
+cast-ram-2 c = search needs
+
 slice-write-ram-2 : tie.Need-slice-write-ram-2
-slice-write-ram-2 c = ?
+slice-write-ram-2 c = omega arith
 
--- src/lib.rt:39:1
 same-length-2 : tie.Need-same-length-2
 same-length-2 c = search needs
 
--- src/lib.rt:39:1
 returns-2 : tie.Need-returns-2
-returns-2 c = ?
+returns-2 c =
+    set-high _ _ _ _ (c .before .before .before .before .before .map-byte .ensures) _ (c .before .if1 .left) (c .before .before .before .slice-known2 .given (c .before .before .before .before .before .map-byte .result .0) .fits)
 
 pub set-code-spec : {M : Type 1} → statement M
 set-code-spec =
     tie.close
     (tie.spec
     map-byte-requires
-    cast-i
-    slice-read-ram
+    cast-byte
+    slice-read-byte
     mul-ram
     add-ram
+    cast-ram
     slice-write-ram
     same-length
     returns
     mul-ram-2
-    slice-read-ram-2
     add-ram-2
+    cast-ram-2
     slice-write-ram-2
     same-length-2
     returns-2)
