@@ -1,2 +1,14 @@
 -- Facts about the rules, each stated once and cited from everywhere.
 pub mod Tests
+pub mod Rounding
+pub mod Digits
+pub mod AllBelow
+pub mod Map
+pub mod Codes
+pub mod View
+pub mod Blocks
+pub mod Good
+pub mod Frames
+pub mod Parts
+pub mod Search
+pub mod Segments

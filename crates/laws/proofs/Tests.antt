@@ -1,7 +1,8 @@
 -- Tests: deciding by one, and taking a conjunction or a disjunction apart.
 -- Assumes nothing.
 use mathlib.Core.Path.{_≡_, refl}
-use mathlib.Core.Bool.{Bool, true, false, not, _&&_, _||_, true≢false, false≢true}
+use mathlib.Core.List.{List, [], _∷_}
+use mathlib.Core.Bool.{Bool, true, false, _&&_, _||_, true≢false, false≢true}
 
 -- a goal by the two outcomes of a test
 pub byTest : {C : Type 0} (t : Bool) → (t ≡ true → C) → (t ≡ false → C) → C
@@ -23,3 +24,25 @@ neither false b h = (refl, h)
 pub or-false : (a b : Bool) → a ≡ false → b ≡ false → (a || b) ≡ false
 or-false true b g h = absurd (true≢false g)
 or-false false b g h = h
+
+-- ---- a chain of tests, t && u && ..: where it holds, each of them does
+
+abbrev pub chain : Bool → List Bool → Bool
+chain t [] = t
+chain t (u ∷ us) = chain (t && u) us
+
+abbrev pub Each : Bool → List Bool → Type 0
+Each t [] = t ≡ true
+Each t (u ∷ us) = (t ≡ true) × Each u us
+
+first : (t : Bool) (us : List Bool) → Each t us → t ≡ true
+first t [] e = e
+first t (u ∷ us) e = e .0
+
+pub each : (t : Bool) (us : List Bool) → chain t us ≡ true → Each t us
+each t [] h = h
+each t (u ∷ us) h = split t u us (each (t && u) us h)
+  where
+    split : (t u : Bool) (us : List Bool) → Each (t && u) us → (t ≡ true) × Each u us
+    split true u us e = (refl, e)
+    split false u us e = absurd (false≢true (first false us e))

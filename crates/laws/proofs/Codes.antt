@@ -1,0 +1,157 @@
+-- The meaning of a code: free, the start of a segment of a domain, or a later block of one.
+-- Assumes nothing.
+use Prim.Native.Nat.{ℕ, zero, suc, _+_, _*_, _%_, _≤_, _<_}
+use mathlib.Core.Path.{_≡_, refl, sym}
+use mathlib.Core.Logic.{_≢_}
+use mathlib.Core.Bool.{Bool, true, false, not, cond}
+use native.Mathlib.Omega.{arith}
+use borrow.Author.Tests.{eqb-true, eqb-false, not-true, ne-eqb, eq-eqb}
+use lib.Dec.{eqb, ltb}
+use Rattle.rules.specs.declared.Config.{Config}
+use Rattle.rules.specs.Memory.{radix, trusted, startCode, laterCode, freeCode, ownerOf, startsSegment, segmentCodes, heapBlock, safeBlock, blocks}
+use Rattle.rules.specs.SetUp.{setUpCode, setUpCodes}
+use Rattle.laws.proofs.Tests.{both, byTest}
+use Rattle.laws.proofs.AllBelow.{AllBelow, none, one, all-replicate}
+
+-- ---- bounds
+
+pub startCode-lt : (d : ℕ) → d ≤ trusted → startCode d < radix
+unfolding startCode radix
+startCode-lt d h = omega arith
+
+pub laterCode-lt : (d : ℕ) → d ≤ trusted → laterCode d < radix
+unfolding laterCode radix
+laterCode-lt d h = omega arith
+
+pub freeCode-lt : freeCode < radix
+unfolding freeCode radix
+freeCode-lt = omega arith
+
+pub segmentCodes-below : (d n : ℕ) → d ≤ trusted → AllBelow radix (segmentCodes d n)
+segmentCodes-below d zero h = none
+segmentCodes-below d (suc n) h = one (startCode-lt d h) (all-replicate radix n (laterCode d) (laterCode-lt d h))
+
+either-lt : {r a b : ℕ} (t : Bool) → a < r → b < r → cond t a b < r
+either-lt true h k = h
+either-lt false h k = k
+
+pub setUpCode-lt : (c : Config) (k : ℕ) → setUpCode c k < radix
+unfolding setUpCode
+setUpCode-lt c k =
+    let first : startCode trusted < radix = startCode-lt trusted (omega arith) in
+    let other : laterCode trusted < radix = laterCode-lt trusted (omega arith) in
+    either-lt (eqb k 0) first
+    (either-lt (ltb k (heapBlock c)) other
+    (either-lt (ltb k (safeBlock c)) freeCode-lt
+    (either-lt (eqb k (safeBlock c)) first (either-lt (ltb k (blocks c)) other freeCode-lt))))
+
+pub setUpCodes-below : (c : Config) (k n : ℕ) → AllBelow radix (setUpCodes c k n)
+unfolding setUpCodes
+setUpCodes-below c k zero = none
+setUpCodes-below c k (suc n) = one (setUpCode-lt c k) (setUpCodes-below c (suc k) n)
+
+-- ---- owners
+
+pub ownerOf-start : (d : ℕ) → ownerOf (startCode d) ≡ d
+unfolding ownerOf startCode
+ownerOf-start d = omega arith
+
+pub ownerOf-later : (d : ℕ) → ownerOf (laterCode d) ≡ d
+unfolding ownerOf laterCode
+ownerOf-later d = omega arith
+
+-- "so a free block has owner 7"
+pub ownerOf-free : ownerOf freeCode ≡ trusted
+unfolding ownerOf freeCode
+ownerOf-free = refl
+
+-- "15 is free or starts a trusted segment"
+pub start-trusted : startCode trusted ≡ freeCode
+unfolding startCode freeCode
+start-trusted = refl
+
+pub ownerOf-le : (code : ℕ) → code < radix → ownerOf code ≤ trusted
+unfolding ownerOf radix
+ownerOf-le code h = omega arith
+
+-- ---- codes differ
+
+pub start≢free : (d : ℕ) → d < trusted → startCode d ≢ freeCode
+unfolding startCode freeCode
+start≢free d h e = omega arith
+
+pub later≢free : (d : ℕ) → laterCode d ≢ freeCode
+unfolding laterCode freeCode
+later≢free d e = omega arith
+
+pub start≢later : (d e : ℕ) → startCode d ≢ laterCode e
+unfolding startCode laterCode
+start≢later d e f = omega arith
+
+pub start-inj : (d e : ℕ) → startCode d ≡ startCode e → d ≡ e
+unfolding startCode
+start-inj d e f = omega arith
+
+pub later-inj : (d e : ℕ) → laterCode d ≡ laterCode e → d ≡ e
+unfolding laterCode
+later-inj d e f = omega arith
+
+-- ---- which codes start a segment
+
+pub starts-start : (d : ℕ) → d < trusted → startsSegment (startCode d) ≡ true
+unfolding startsSegment startCode freeCode
+starts-start d h = rw (eq-eqb ((2 * d + 1) % 2) 1 (omega arith), ne-eqb (2 * d + 1) 15 (λ e. omega arith)) refl
+
+pub starts-later : (d : ℕ) → startsSegment (laterCode d) ≡ false
+unfolding startsSegment laterCode
+starts-later d = rw (ne-eqb (2 * d % 2) 1 (λ e. omega arith)) refl
+
+pub starts-free : startsSegment freeCode ≡ false
+unfolding startsSegment freeCode
+starts-free = refl
+
+pub starts-only : (code : ℕ) → startsSegment code ≡ true → code < radix
+    → (code ≡ startCode (ownerOf code)) × (ownerOf code < trusted)
+unfolding startsSegment startCode ownerOf radix freeCode
+starts-only code h l =
+    let (odd, other) = both (eqb (code % 2) 1) (not (eqb code 15)) h in
+    let o : code % 2 ≡ 1 = eqb-true _ _ odd in
+    let n : code ≢ 15 = eqb-false code 15 (not-true _ other) in
+    (omega arith, omega arith)
+
+-- ---- codes as data
+
+pub data Meaning : Type 0 where
+  free : Meaning
+  start : ℕ → Meaning
+  later : ℕ → Meaning
+
+abbrev pub encode : Meaning → ℕ
+encode free = freeCode
+encode (start d) = startCode d
+encode (later d) = laterCode d
+
+unfoldable pub decode : ℕ → Meaning
+decode code = cond (eqb code freeCode) free (cond (startsSegment code) (start (ownerOf code)) (later (ownerOf code)))
+
+pub decode-free : decode freeCode ≡ free
+unfolding decode
+decode-free = rw (eq-eqb freeCode freeCode refl) refl
+
+pub decode-start : (d : ℕ) → d < trusted → decode (startCode d) ≡ start d
+unfolding decode
+decode-start d h = rw (ne-eqb (startCode d) freeCode (start≢free d h), starts-start d h, ownerOf-start d) refl
+
+pub decode-later : (d : ℕ) → decode (laterCode d) ≡ later d
+unfolding decode
+decode-later d = rw (ne-eqb (laterCode d) freeCode (later≢free d), starts-later d, ownerOf-later d) refl
+
+-- every code is the code of its meaning
+pub encode-decode : (code : ℕ) → encode (decode code) ≡ code
+unfolding decode startsSegment ownerOf startCode laterCode freeCode
+encode-decode code =
+    byTest (eqb code 15)
+    (λ t. rw t (sym (eqb-true code 15 t)))
+    (λ t. byTest (eqb (code % 2) 1)
+    (λ o. rw (t, o) (omega (arith, eqb-true (code % 2) 1 o)))
+    (λ o. rw (t, o) (omega (arith, eqb-false (code % 2) 1 o))))

@@ -1,0 +1,30 @@
+-- Division rounded up, over any divisor above 0.
+-- Assumes nothing.
+use Prim.Native.Nat.{ℕ, suc, _+_, _-_, _*_, _<_, _≤_}
+use mathlib.Core.Path.{_≡_}
+use native.Mathlib.Nat.{lt-div-mul-add, div-lt-iff-lt-mul, suc-mul, le-mul-of-pos-right, le-of-mul-le-mul-right, lt-of-mul-lt-mul-right}
+use native.Mathlib.Omega.{arith}
+use Rattle.rules.specs.Memory.{dividedUp}
+
+module _ {d : ℕ} (pos : 0 < d) where
+  -- the parts hold it
+  pub up-holds : (n : ℕ) → n ≤ dividedUp n d * d
+  unfolding dividedUp
+  up-holds n = omega (arith, lt-div-mul-add {a = n + (d - 1)} pos)
+
+  -- and no fewer would
+  pub up-least : {n : ℕ} (k : ℕ) → n ≤ k * d → dividedUp n d ≤ k
+  unfolding dividedUp
+  up-least {n} k h = omega (arith, div-lt-iff-lt-mul {k = d} {x = n + (d - 1)} {y = suc k} pos .1 (omega (arith, suc-mul k d)))
+
+  pub up-exact : (k : ℕ) → dividedUp (k * d) d ≡ k
+  up-exact k = let more : k ≤ dividedUp (k * d) d = le-of-mul-le-mul-right (up-holds (k * d)) pos in omega (arith, up-least {n = k * d} k (omega arith))
+
+  pub up-le : (n : ℕ) → dividedUp n d ≤ n
+  up-le n = up-least n (le-mul-of-pos-right n pos)
+
+  pub up-pos : {n : ℕ} → 0 < n → 0 < dividedUp n d
+  up-pos {n} h = lt-of-mul-lt-mul-right d (omega (arith, up-holds n))
+
+  pub up-mono : {m n : ℕ} → m ≤ n → dividedUp m d ≤ dividedUp n d
+  up-mono {m} {n} h = up-least (dividedUp n d) (omega (arith, up-holds n))

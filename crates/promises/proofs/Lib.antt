@@ -1,0 +1,2 @@
+-- The proofs of what specs/ promises.
+pub mod Limits

@@ -1,0 +1,3 @@
+-- What is promised, to be read beside document 01.
+pub mod Sample
+pub mod Limits
