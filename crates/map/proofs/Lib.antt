@@ -1,0 +1,2 @@
+-- Facts about the codes of this crate's file.
+pub mod Halves
