@@ -1,0 +1,1 @@
+// Section 5, call: which answer it gets.

@@ -1,0 +1,1 @@
+// Section 5, return: which answer it gets.
