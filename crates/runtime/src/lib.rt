@@ -5,6 +5,7 @@ ghost use Rattle.rules.specs.Call.{callOf};
 ghost use Rattle.rules.specs.Return.{returnOf};
 
 mod call_check;
+mod code_ranges;
 pub mod numbers;
 mod return_check;
 mod store_check;
@@ -25,6 +26,48 @@ pub fn store(state: State, ram: &mut [u8], address: RamByte, byte: u8) -> Outcom
         Answer::Done(_) => {
             ram[address.0 as usize] = byte;
             return Outcome { answer, state };
+        }
+        Answer::Refused(_) => return Outcome { answer, state },
+    }
+}
+
+// A frame is written to the safe stack area, which is lent to the frame writer, and to no other byte.
+pub fn call(
+    state: State,
+    ram: &mut [u8],
+    table: &[u16],
+    target: FlashWord,
+    site: FlashWord,
+    pointer: RamByte,
+) -> Outcome
+    ensures { λ r. ⌜ Gives r (now (ram .exit)) (callOf state (now (ram .entry)) (now (table .entry)) target site pointer) ⌝ }
+{
+    let answer = call_check::answer(state, ram, table, target, site, pointer);
+    match answer {
+        Answer::Done(_) => {
+            let config = state.config;
+            let safe = config.safe.0 as usize;
+            let top = config.top.0 as usize;
+            let used = state.safepointer.0 - config.safe.0;
+            let mut next = state;
+            if target.0 < config.jt.0 {
+                frames::push(&mut ram[safe..top], used, Frame::Local(site));
+                next.safepointer = address::above(state.safepointer, frames::LOCAL_BYTES);
+                return Outcome {
+                    answer,
+                    state: next,
+                };
+            }
+            let bound = state.bound;
+            let frame = Frame::Cross(site, bound, state.domain);
+            frames::push(&mut ram[safe..top], used, frame);
+            next.domain = call_check::called_domain(config, target);
+            next.bound = pointer;
+            next.safepointer = address::above(state.safepointer, frames::CROSS_BYTES);
+            return Outcome {
+                answer,
+                state: next,
+            };
         }
         Answer::Refused(_) => return Outcome { answer, state },
     }

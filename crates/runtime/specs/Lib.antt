@@ -1,0 +1,2 @@
+-- Parts of the rules that private functions answer for.
+pub mod CallRows
