@@ -1,7 +1,7 @@
 -- Call's table of refusals, as the code goes through it, and what holds where a call is done.
 -- Assumes nothing.
 use Prim.Native.Nat.{ℕ, _+_, _-_, _<_, _≤_}
-use mathlib.Core.Path.{_≡_, refl}
+use mathlib.Core.Path.{_≡_, refl, sym, _∙_}
 use mathlib.Core.Bool.{Bool, true, false, not, _&&_, _||_, and-false, or-true}
 use mathlib.Core.List.{List}
 use native.Mathlib.Omega.{arith}
@@ -11,6 +11,7 @@ use borrow.Author.Tests.{eq-eqb, ne-eqb, lt-ltb, le-ltb, le-leb, lt-leb, eqb-tru
 use Rattle.rules.specs.declared.RamByte.{RamByte}
 use Rattle.rules.specs.declared.FlashWord.{FlashWord}
 use Rattle.rules.specs.declared.State.{State}
+use Rattle.rules.specs.declared.Answer.{Answer}
 use Rattle.rules.specs.declared.Answer.the-variants.{Done, Refused}
 use Rattle.rules.specs.declared.Refusal.the-variants.{WrongSize, BadState, SiteOutside, TargetOutside, PastTables, BadEntry, PointerOutside, PassesTop}
 use Rattle.rules.specs.Memory.{ramBytes}
@@ -140,9 +141,10 @@ pub record CallDone (s : State) (ram : List ℕ) (t site : FlashWord) : Type 0 w
   pub within : (isCross s t && leb tableWords (tableWord (s .config) t)) ≡ false
   pub fits : s .safepointer .0 + length (frameBytes (frameOf s t site)) ≤ s .config .top .0
 
-pub call-done : (s : State) (ram table : List ℕ) (t site : FlashWord) (p : RamByte) (v : ℕ)
-    → callAnswer s ram table t site p ≡ Done v → CallDone s ram t site
-call-done s ram table t site p v h =
+pub call-done : (s : State) (ram table : List ℕ) (t site : FlashWord) (p : RamByte) (answer : Answer) (v : ℕ)
+    → answer ≡ callAnswer s ram table t site p → answer ≡ Done v → CallDone s ram t site
+call-done s ram table t site p answer v right done =
+    let h : callAnswer s ram table t site p ≡ Done v = sym right ∙ done in
     let (sizes, a) = row-passed (not (eqb (length ram) ramBytes) || not (eqb (length table) tableWords)) WrongSize _ v h in
     let (good, b) = row-passed (not (goodState s)) BadState _ v a in
     let (from, c) = row-passed (not (goodSite (s .config) (s .domain) site)) SiteOutside _ v b in

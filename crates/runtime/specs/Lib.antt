@@ -1,2 +1,3 @@
 -- Parts of the rules that private functions answer for.
 pub mod CallRows
+pub mod ReturnRows

@@ -72,3 +72,42 @@ pub fn call(
         Answer::Refused(_) => return Outcome { answer, state },
     }
 }
+
+// The frame's bytes stay in RAM.
+pub fn ret(state: State, ram: &mut [u8]) -> Outcome
+    ensures { λ r. ⌜ Gives r (now (ram .exit)) (returnOf state (now (ram .entry))) ⌝ }
+{
+    let early = return_check::early(state, ram);
+    let Answer::Done(_) = early else {
+        return Outcome {
+            answer: early,
+            state,
+        };
+    };
+    let frame = return_check::judged_frame(state, ram);
+    let mut next = state;
+    match frame {
+        Frame::Local(site) => {
+            next.safepointer = address::below(state.safepointer, frames::LOCAL_BYTES);
+            let answer = Answer::Done(site.0);
+            return Outcome {
+                answer,
+                state: next,
+            };
+        }
+        Frame::Cross(site, bound, domain) => {
+            next.domain = domain;
+            next.bound = bound;
+            next.safepointer = address::below(state.safepointer, frames::CROSS_BYTES);
+            let answer = Answer::Done(site.0);
+            return Outcome {
+                answer,
+                state: next,
+            };
+        }
+        Frame::Damage => {
+            let answer = Answer::Refused(Refusal::DamagedFrame);
+            return Outcome { answer, state };
+        }
+    }
+}
