@@ -5,7 +5,8 @@ use Rattle.rules.specs.declared.Frame.the-variants.{Local, Cross}
 use Rattle.rules.specs.Call.{frameBytes, frameOf, called, callAnswer}
 use Rattle.laws.proofs.Answers.{gives-refused}
 use Rattle.runtime.proofs.CallRows.{CallDone, call-done}
-use Rattle.runtime.proofs.Calls.{Area, area, room, pushed, gives-local, gives-cross, local-fits, cross-fits, word-within}
+use Rattle.runtime.proofs.SafeStack.{Area, area, room}
+use Rattle.runtime.proofs.Calls.{pushed, gives-local, gives-cross, local-fits, cross-fits, word-within}
 use borrow.Author.Needs.{needs}
 use Rattle.runtime.proofs.call.Statement.{statement}
 use Rattle.runtime.proofs.call.Tie as tie

@@ -1,78 +1,80 @@
+-- `runtime::ret` meets its contract. Assumes nothing.
+use mathlib.Core.Path.{sym, _∙_}
+use Rattle.runtime.proofs.SafeStack.{Area, area}
+use Rattle.runtime.proofs.Returns.{Framed, framed, gives-early, gives-local, gives-cross, gives-damage, local-below, cross-below}
 use borrow.Author.Needs.{needs}
 use Rattle.runtime.proofs.ret.Statement.{statement}
 use Rattle.runtime.proofs.ret.Tie as tie
-use Rattle.runtime.proofs.ret.Reads as reads
-use Rattle.runtime.proofs.ret.Lts as lts
-use Rattle.address.proofs.below.Reads as below-reads
-use Rattle.runtime.proofs.return_check.early.Reads as early-reads
-use Rattle.runtime.proofs.return_check.judged_frame.Reads as judged-frame-reads
 
--- src/lib.rt:80:9
+-- there is a frame, and the safe stack area that holds it
+there : (c : tie.After-enum-told) → Framed (c .before .before .before .before .before .args .state) (c .before .before .before .before .before .args .ram .now)
+there c = framed (c .before .before .before .before .before .args .state) (c .before .before .before .before .before .args .ram .now) _ _ (c .before .before .early .ensures) (c .enum-told .given .1)
+
+room-of : (c : tie.After-enum-told) → Area (c .before .before .before .before .before .args .state) (c .before .before .before .before .before .args .ram .now)
+room-of c = area (c .before .before .before .before .before .args .state) (c .before .before .before .before .before .args .ram .now) (there c .size) (there c .good)
+
 early-requires : tie.Need-early-requires
 early-requires c κs = search needs
 
 enum-told : tie.Need-enum-told
 enum-told c = search needs
 
--- src/lib.rt:82:9
 enum-told-2 : tie.Need-enum-told-2
 enum-told-2 c = search needs
 
--- src/lib.rt:82:9
 same-length : tie.Need-same-length
 same-length c = search needs
 
--- src/lib.rt:82:9
 returns : tie.Need-returns
-returns c = ?
+returns c =
+    let x = c .before .before .before .before .before .args in
+    gives-early (x .state) (x .ram .now) _ _ (c .before .before .early .ensures) (c .enum-told2 .given .1)
 
--- src/lib.rt:87:9
 judged-frame-requires : tie.Need-judged-frame-requires
-judged-frame-requires c κs = ?
+judged-frame-requires c κs = (there (c .before) .size, there (c .before) .good, there (c .before) .safe<pointer)
 
--- src/lib.rt:90:22
 enum-known-frame : tie.Need-enum-known-frame
 enum-known-frame c = search needs
 
--- src/lib.rt:91:13
 below-requires : tie.Need-below-requires
-below-requires c κs = ?
+below-requires c κs =
+    let x = c .before .before .before .before .before .before .before .before .before .before .args in
+    local-below (x .state) (x .ram .now) (there (c .before .before .before .before .before)) (room-of (c .before .before .before .before .before)) _ (sym (c .before .before .before .judged-frame .ensures) ∙ c .before .frame .given .1)
 
--- src/lib.rt:93:13
 same-length-2 : tie.Need-same-length-2
 same-length-2 c = search needs
 
--- src/lib.rt:93:13
 returns-2 : tie.Need-returns-2
-returns-2 c = ?
+returns-2 c =
+    let x = c .before .before .before .before .before .before .before .before .before .before .before .args in
+    gives-local (x .state) (x .ram .now) (there (c .before .before .before .before .before .before)) _ _ (sym (c .before .before .before .before .judged-frame .ensures) ∙ c .before .before .frame .given .1) (c .below .ensures)
 
--- src/lib.rt:98:22
 enum-known-frame-2 : tie.Need-enum-known-frame-2
 enum-known-frame-2 c = search needs
 
--- src/lib.rt:101:13
 below-requires-2 : tie.Need-below-requires-2
-below-requires-2 c κs = ?
+below-requires-2 c κs =
+    let x = c .before .before .before .before .before .before .before .before .before .before .args in
+    cross-below (x .state) (x .ram .now) (there (c .before .before .before .before .before)) (room-of (c .before .before .before .before .before)) _ _ _ (sym (c .before .before .before .judged-frame .ensures) ∙ c .before .frame2 .given .1)
 
--- src/lib.rt:103:13
 same-length-3 : tie.Need-same-length-3
 same-length-3 c = search needs
 
--- src/lib.rt:103:13
 returns-3 : tie.Need-returns-3
-returns-3 c = ?
+returns-3 c =
+    let x = c .before .before .before .before .before .before .before .before .before .before .before .args in
+    gives-cross (x .state) (x .ram .now) (there (c .before .before .before .before .before .before)) _ _ _ _ (sym (c .before .before .before .before .judged-frame .ensures) ∙ c .before .before .frame2 .given .1) (c .below2 .ensures)
 
--- src/lib.rt:109:42
 enum-told-3 : tie.Need-enum-told-3
 enum-told-3 c = search needs
 
--- src/lib.rt:110:13
 same-length-4 : tie.Need-same-length-4
 same-length-4 c = search needs
 
--- src/lib.rt:110:13
 returns-4 : tie.Need-returns-4
-returns-4 c = ?
+returns-4 c =
+    let x = c .before .before .before .before .before .before .before .before .before .args in
+    gives-damage (x .state) (x .ram .now) (there (c .before .before .before .before)) (sym (c .before .before .judged-frame .ensures) ∙ c .enum-told3 .given .1)
 
 pub ret-spec : {M : Type 1} → statement M
 ret-spec =

@@ -1,41 +1,43 @@
+-- `runtime::return_check::top_frame` meets its contract. Assumes nothing.
+use mathlib.Core.Path.{_∙_}
+use native.Mathlib.Omega.{arith}
+use Rattle.runtime.proofs.SafeStack.{Area, area, lent-length}
+use Rattle.runtime.proofs.Returns.{frame-read}
 use borrow.Author.Needs.{needs}
 use Rattle.runtime.proofs.return_check.top_frame.Statement.{statement}
 use Rattle.runtime.proofs.return_check.top_frame.Tie as tie
-use Rattle.runtime.proofs.return_check.top_frame.Reads as reads
-use Rattle.runtime.proofs.return_check.top_frame.Lts as lts
-use Rattle.frames.proofs.pop.Reads as pop-reads
 
--- src/return_check.rt:38:16
+-- the safe stack area that is lent
+room-of : (c : tie.Start) → Area (c .args .state) (c .args .ram .now)
+room-of c = area (c .args .state) (c .args .ram .now) (c .pre .0) (c .pre .1)
+
 cast-safe : tie.Need-cast-safe
 cast-safe c = search needs
 
--- src/return_check.rt:39:15
 cast-top : tie.Need-cast-top
 cast-top c = search needs
 
--- src/return_check.rt:40:17
 sub-pop : tie.Need-sub-pop
-sub-pop c = ?
+sub-pop c = omega (arith, room-of (c .before .before .before .before))
 
--- src/return_check.rt:40:17
 part-pop-start : tie.Need-part-pop-start
-part-pop-start c = ?
+part-pop-start c = omega (arith, room-of (c .before .before .before .before))
 
--- src/return_check.rt:40:17
 part-pop-end : tie.Need-part-pop-end
-part-pop-end c = ?
+part-pop-end c = room-of (c .before .before .before .before) .top≤length
 
--- src/return_check.rt:40:34
 sub-pop-2 : tie.Need-sub-pop-2
 sub-pop-2 c = search needs
 
--- src/return_check.rt:40:5
 pop-requires : tie.Need-pop-requires
-pop-requires c κs = ?
+pop-requires c κs =
+    let x = c .before .before .before .before .before .before .before .args in
+    (omega (arith, c .before .before .before .before .before .before .before .pre), rw (lent-length (x .state) (x .ram .now) (room-of (c .before .before .before .before .before .before .before))) (omega (arith, room-of (c .before .before .before .before .before .before .before))))
 
--- src/return_check.rt:33:1
 returns : tie.Need-returns
-returns c = ?
+returns c =
+    let x = c .before .before .before .before .before .before .before .before .args in
+    c .pop .ensures ∙ frame-read (x .state) (x .ram .now) (room-of (c .before .before .before .before .before .before .before .before))
 
 pub top-frame-spec : {M : Type 1} → statement M
 top-frame-spec =
