@@ -14,6 +14,9 @@ use rules::Block;
 use rules::FlashWord;
 use rules::RamByte;
 
+// RAM is this many bytes.
+pub const RAM_BYTES: u16 = 4096;
+
 const BLOCK_BYTES: u16 = 8;
 
 // The block that an address from bot on lies in.
@@ -80,7 +83,7 @@ pub fn below(a: RamByte, n: u16) -> RamByte
 pub fn last_byte() -> RamByte
     ensures { λ r. ⌜ r ≡ ramByte (ramBytes - 1) ⌝ }
 {
-    RamByte(4095)
+    RamByte(RAM_BYTES - 1)
 }
 
 // The zero of a refused set-up's state.

@@ -6,10 +6,9 @@ use mathlib.Core.List.{List}
 use native.Mathlib.Omega.{arith}
 use lib.ListN.{length, getD, take}
 use lib.Seq.{length-take-le, getD-take}
-use borrow.Author.Tests.{eq-eqb, ne-eqb, lt-ltb, le-leb, lt-leb}
+use borrow.Author.Tests.{ne-eqb, lt-ltb, le-leb, lt-leb}
 use Rattle.rules.specs.declared.FlashWord.{FlashWord}
 use Rattle.rules.specs.declared.RamByte.{RamByte}
-use Rattle.rules.specs.declared.Frame.{Frame}
 use Rattle.rules.specs.declared.Frame.the-variants.{Local, Cross, Damage}
 use Rattle.rules.specs.Memory.{trusted}
 use Rattle.rules.specs.Code.{flashWord}

@@ -4,8 +4,6 @@ ghost use mathlib.Core.Bool.{_&&_};
 ghost use Rattle.rules.specs.State.{multiples, botBelowTop, mapBelowHeap, heapBelowSafe, safeBelowTop, topInRam};
 use rules::Config;
 
-const RAM_BYTES: u16 = 4096;
-
 pub fn multiples(config: Config) -> bool
     ensures { λ r. ⌜ r ≡ multiples config ⌝ }
 {
@@ -25,7 +23,7 @@ pub fn multiples(config: Config) -> bool
 pub fn in_order(config: Config) -> bool
     ensures { λ r. ⌜ r ≡ (botBelowTop config && mapBelowHeap config && heapBelowSafe config && safeBelowTop config && topInRam config) ⌝ }
 {
-    if RAM_BYTES < config.top.0 {
+    if address::RAM_BYTES < config.top.0 {
         return false;
     }
     if config.top.0 < config.safe.0 {

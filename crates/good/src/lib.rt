@@ -8,10 +8,10 @@ mod ranges;
 use rules::Config;
 use rules::State;
 
-const TRUSTED: u8 = 7;
+// The trusted domain, the last of eight.
+pub const TRUSTED: u8 = 7;
 
-const RAM_BYTES: u16 = 4096;
-
+// The jump tables end where flash does.
 const LAST_JT: u16 = 64512;
 
 pub fn good_config(config: Config) -> bool
@@ -40,7 +40,7 @@ pub fn good_state(state: State) -> bool
     if TRUSTED < state.domain {
         return false;
     }
-    if RAM_BYTES <= state.bound.0 {
+    if address::RAM_BYTES <= state.bound.0 {
         return false;
     }
     if state.bound.0 + 1 < config.top.0 {

@@ -1,13 +1,13 @@
 -- Call's table of refusals, as the code goes through it, and what holds where a call is done.
 -- Assumes nothing.
 use Prim.Native.Nat.{ℕ, _+_, _-_, _<_, _≤_}
-use mathlib.Core.Path.{_≡_, refl, sym, _∙_}
-use mathlib.Core.Bool.{Bool, true, false, not, _&&_, _||_, and-false, or-true}
+use mathlib.Core.Path.{_≡_, sym, _∙_}
+use mathlib.Core.Bool.{Bool, true, false, not, _&&_, _||_, or-true}
 use mathlib.Core.List.{List}
 use native.Mathlib.Omega.{arith}
 use lib.ListN.{length}
 use lib.Dec.{eqb, leb, ltb}
-use borrow.Author.Tests.{eq-eqb, ne-eqb, lt-ltb, le-ltb, le-leb, lt-leb, eqb-true, ltb-false, leb-false, not-false}
+use borrow.Author.Tests.{eq-eqb, ne-eqb, lt-ltb, le-ltb, le-leb, lt-leb, eqb-true, ltb-false, not-false}
 use Rattle.rules.specs.declared.RamByte.{RamByte}
 use Rattle.rules.specs.declared.FlashWord.{FlashWord}
 use Rattle.rules.specs.declared.State.{State}

@@ -2,7 +2,7 @@
 -- Assumes nothing.
 use Prim.Native.Nat.{ℕ, _+_, _-_, _<_, _≤_}
 use mathlib.Core.Path.{_≡_, refl, sym, _∙_}
-use mathlib.Core.Bool.{Bool, true, false, not, cond, _||_, or-true}
+use mathlib.Core.Bool.{Bool, true, false, not, cond}
 use mathlib.Core.List.{List}
 use native.Mathlib.Omega.{arith}
 use lib.ListN.{length, getD, take}
@@ -26,7 +26,7 @@ use Rattle.rules.specs.Answers.{_⇒_∣_, give, Gives}
 use Rattle.rules.specs.Call.{localTag}
 use Rattle.rules.specs.Return.{readFrame, topFrame, damaged, siteOf, returnAnswer, returned, returnOf}
 use Rattle.laws.proofs.Answers.{row-passed, gives-refused}
-use Rattle.laws.proofs.Good.{GoodState, goodState-facts}
+use Rattle.laws.proofs.Good.{goodState-facts}
 use Rattle.laws.proofs.Parts.{take-part}
 use Rattle.runtime.specs.ReturnRows.{earlyRows, judged}
 use Rattle.runtime.proofs.SafeStack.{Area, lent}

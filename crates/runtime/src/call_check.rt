@@ -80,10 +80,10 @@ pub fn answer(
 ) -> Answer
     ensures { λ r. ⌜ r ≡ callAnswer state (now (ram .entry)) (now (table .entry)) target site pointer ⌝ }
 {
-    if ram.len() != 4096 {
+    if ram.len() != address::RAM_BYTES as usize {
         return Answer::Refused(Refusal::WrongSize);
     }
-    if table.len() != 1024 {
+    if table.len() != TABLE_WORDS as usize {
         return Answer::Refused(Refusal::WrongSize);
     }
     if !good::good_state(state) {

@@ -16,7 +16,7 @@ use rules::State;
 pub fn early(state: State, ram: &[u8]) -> Answer
     ensures { λ r. ⌜ r ≡ earlyRows state (now (ram .entry)) ⌝ }
 {
-    if ram.len() != 4096 {
+    if ram.len() != address::RAM_BYTES as usize {
         return Answer::Refused(Refusal::WrongSize);
     }
     if !good::good_state(state) {
@@ -61,7 +61,7 @@ pub fn judged_frame(state: State, ram: &[u8]) -> Frame
             if bound.0 < state.bound.0 {
                 return Frame::Damage;
             }
-            if 4096 <= bound.0 {
+            if address::RAM_BYTES <= bound.0 {
                 return Frame::Damage;
             }
             return frame;

@@ -6,21 +6,19 @@ use rules::RamByte;
 use rules::Refusal;
 use rules::State;
 
-const TRUSTED: u8 = 7;
-
 pub fn answer(state: State, ram: &[u8], address: RamByte) -> Answer
     ensures { λ r. ⌜ r ≡ storeAnswer state (now (ram .entry)) address ⌝ }
 {
-    if ram.len() != 4096 {
+    if ram.len() != address::RAM_BYTES as usize {
         return Answer::Refused(Refusal::WrongSize);
     }
     if !good::good_state(state) {
         return Answer::Refused(Refusal::BadState);
     }
-    if 4096 <= address.0 {
+    if address::RAM_BYTES <= address.0 {
         return Answer::Refused(Refusal::PastRam);
     }
-    if state.domain == TRUSTED {
+    if state.domain == good::TRUSTED {
         return Answer::Done(0);
     }
     let config = state.config;

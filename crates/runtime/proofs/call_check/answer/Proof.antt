@@ -7,10 +7,16 @@ use borrow.Author.Needs.{needs}
 use Rattle.runtime.proofs.call_check.answer.Statement.{statement}
 use Rattle.runtime.proofs.call_check.answer.Tie as tie
 
+cast-if1 : tie.Need-cast-if1
+cast-if1 c = search needs
+
 returns : tie.Need-returns
 returns c =
     let x = c .before .before .before .args in
     wrong-ram (x .state) (x .ram .now) (x .table .now) (x .target) (x .site) (x .pointer) (c .if1 .taken)
+
+cast-if2 : tie.Need-cast-if2
+cast-if2 c = search needs
 
 returns-2 : tie.Need-returns-2
 returns-2 c =
@@ -58,8 +64,8 @@ pub answer-spec : {M : Type 1} → statement M
 answer-spec =
     tie.close
     (tie.spec
-    returns
-    returns-2
+    cast-if1 returns
+    cast-if2 returns-2
     good-state-requires
     returns-3
     in-code-requires
