@@ -12,6 +12,7 @@ use Rattle.rules.specs.declared.RamByte.{RamByte}
 use Rattle.rules.specs.declared.Config.{Config}
 use Rattle.rules.specs.declared.Found.the-variants.{At}
 use Rattle.rules.specs.Memory.{heapBlock, safeBlock, codeOf, setCode, setCodes, laterCode, freeCode, ownerOf, isFree}
+use Rattle.rules.specs.SetUp.{setUpCode, setUpCodes}
 use Rattle.rules.specs.Malloc.{block, freeRun, firstRun}
 use Rattle.rules.specs.Free.{continued, segmentBlocks}
 use Rattle.laws.proofs.Tests.{byTest}
@@ -85,3 +86,20 @@ module _ (c : Config) (ram : List ℕ) where
       let next : suc (k + run) ≡ k + (run + 1) = omega arith in
       let left : safeBlock c - k - (suc (k + run) - k) ≡ safeBlock c - (k + (run + 1)) = omega arith in
       search-skip c ram n k (safeBlock c - k) (k + run) (omega arith) (omega arith) (not-free (k + run) other) ∙ rw (left, next)
+
+-- ---- set-up's codes, those of two places at a time
+
+pub set-up-next : (c : Config) (ram : List ℕ) (k places : ℕ) → k + 2 ≤ places
+    → setCodes (c .bot) ram k (setUpCodes c k (places - k))
+    ≡ setCodes (c .bot) (setCode (c .bot) (setCode (c .bot) ram k (setUpCode c k)) (k + 1) (setUpCode c (k + 1))) (k + 2)
+    (setUpCodes c (k + 2) (places - (k + 2)))
+unfolding setCodes setUpCodes
+set-up-next c ram k places h =
+    let left : places - k ≡ suc (suc (places - (k + 2))) = omega arith in
+    let one : suc k ≡ k + 1 = omega arith in
+    let two : suc (suc k) ≡ k + 2 = omega arith in
+    rw (left, ← one, ← two)
+
+pub set-up-end : (c : Config) (ram : List ℕ) (k places : ℕ) → places ≤ k → setCodes (c .bot) ram k (setUpCodes c k (places - k)) ≡ ram
+unfolding setCodes setUpCodes
+set-up-end c ram k places h = let none : places - k ≡ 0 = omega arith in rw none
