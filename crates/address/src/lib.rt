@@ -7,6 +7,9 @@ ghost use Rattle.rules.specs.Memory.{blockBytes, startOf, blockOf, isMultiple, 
 ghost use Rattle.rules.specs.Code.{flashWord};
 ghost use Rattle.rules.specs.State.{ramByte};
 ghost use Rattle.rules.specs.Malloc.{block};
+
+pub mod packing;
+
 use rules::Block;
 use rules::FlashWord;
 use rules::RamByte;

@@ -1,2 +1,3 @@
 -- The proofs of what specs/ promises.
 pub mod Limits
+pub mod Sample

@@ -9,3 +9,4 @@ pub mod Call
 pub mod Return
 pub mod Malloc
 pub mod Free
+pub mod Script

@@ -81,3 +81,24 @@ pub struct Outcome {
     pub answer: Answer,
     pub state: State,
 }
+
+// Section 7: an operation of a script, with its operands.
+pub enum Operation {
+    Store(RamByte, u8),
+    // target, return site, stack pointer
+    Call(FlashWord, FlashWord, RamByte),
+    Return,
+    Malloc(u16),
+    Free(RamByte),
+    Change(RamByte, u8),
+}
+
+// Section 7: what stands at a place of a script.
+pub enum Read {
+    // an operation, and where the next one starts
+    Whole(Operation, usize),
+    // one that is unknown or cut
+    Cut,
+    // nothing more
+    End,
+}
