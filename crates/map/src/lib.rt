@@ -1,11 +1,11 @@
-// The map: half-byte codes, written and read by quotient and remainder. A code is one of 16, a byte holds two and 15 is free in
-// this file and nowhere else in the code.
+// The map: half-byte codes, written and read by quotient and remainder. That a code is one of 16, and 15 is free, stands in this file
+// and nowhere else in the code.
 ghost use mathlib.Core.Bool.{true};
 ghost use mathlib.Core.List.{_∷_};
 ghost use mathlib.Core.Path.{_≡_};
 ghost use Prim.Native.Nat.{_+_, _-_, _≤_, _<_};
 ghost use lib.ListN.{length, replicate};
-ghost use Rattle.rules.specs.Memory.{ramBytes, radix, mapBytesFor, mapByte, safeBlock, codeOf, setCode, setCodes, startCode, laterCode, freeCode, ownerOf, startsSegment, trusted};
+ghost use Rattle.rules.specs.Memory.{ramBytes, radix, mapByte, safeBlock, codeOf, setCode, setCodes, startCode, laterCode, freeCode, ownerOf, startsSegment, trusted};
 ghost use Rattle.rules.specs.State.{goodConfig};
 ghost use Rattle.rules.specs.SetUp.{setUpCode, setUpRam};
 ghost use Rattle.rules.specs.Malloc.{lowestRun};
@@ -14,14 +14,14 @@ use address::above;
 use address::block_of;
 use address::first_block;
 use address::further;
+use address::packing::PER_BYTE;
+use address::packing::map_bytes_for;
 use rules::Block;
 use rules::Config;
 use rules::Found;
 use rules::RamByte;
 
 const RADIX: u8 = 16;
-
-const PER_BYTE: u16 = 2;
 
 const FREE: u8 = 15;
 // The trusted domain.
@@ -162,13 +162,6 @@ pub fn lowest_run(config: Config, ram: &[u8], n: u16) -> Found
     found
 }
 
-// How many bytes hold the codes of n blocks: rounded up, and the sum cannot pass 65535.
-pub fn map_bytes(n: u16) -> u16
-    ensures { λ r. ⌜ r ≡ mapBytesFor n ⌝ }
-{
-    n / PER_BYTE + (n % PER_BYTE + (PER_BYTE - 1)) / PER_BYTE
-}
-
 // The code that set-up gives a place of the map.
 fn set_up_code(config: Config, k: Block) -> u8
     requires { ⌜ goodConfig config ≡ true ⌝ }
@@ -202,7 +195,7 @@ pub fn set_up_map(config: Config, ram: &mut [u8])
     ensures { λ _. ⌜ now (ram .exit) ≡ setUpRam config (now (ram .entry)) ⌝ }
 {
     let end = block_of(config.bot, config.top);
-    let places = map_bytes(end.0) * PER_BYTE;
+    let places = map_bytes_for(end.0) * PER_BYTE;
     let mut k = first_block();
     while k.0 < places {
         let low = set_up_code(config, k);

@@ -28,13 +28,13 @@ abbrev μ-loop : tie.MeasureT-loop
 block-of-requires : tie.Need-block-of-requires Inv-loop μ-loop
 block-of-requires c κs = bot≤top _ (c .before .pre .1)
 
-map-bytes-requires : tie.Need-map-bytes-requires Inv-loop μ-loop
-map-bytes-requires c κs = search needs
+map-bytes-for-requires : tie.Need-map-bytes-for-requires Inv-loop μ-loop
+map-bytes-for-requires c κs = search needs
 
 mul-places : tie.Need-mul-places Inv-loop μ-loop
 unfolding blocks
 mul-places c =
-    rw (c .map-bytes .ensures, c .before .block-of .ensures)
+    rw (c .map-bytes-for .ensures, c .before .block-of .ensures)
     (omega (arith, mapBytesFor-le (blocks (c .before .before .before .args .config)), blocks≤ram (goodConfig-facts (c .before .before .before .args .config) (c .before .before .before .pre .1))))
 
 first-block-requires : tie.Need-first-block-requires Inv-loop μ-loop
@@ -43,7 +43,7 @@ first-block-requires c κs = search needs
 loop-holds : tie.Need-loop-holds Inv-loop μ-loop
 unfolding mapBytes blocks perByte setUpRam
 loop-holds c =
-    let bytes : c .before .map-bytes .result ≡ mapBytes (c .before .before .before .before .args .config) = rw (c .before .before .block-of .ensures) at (c .before .map-bytes .ensures) in
+    let bytes : c .before .map-bytes-for .result ≡ mapBytes (c .before .before .before .before .args .config) = rw (c .before .before .block-of .ensures) at (c .before .map-bytes-for .ensures) in
     let few : mapBytes (c .before .before .before .before .args .config) * 2 < 65536 =
     omega (arith, mapBytesFor-le (blocks (c .before .before .before .before .args .config)), blocks≤ram (goodConfig-facts (c .before .before .before .before .args .config) (c .before .before .before .before .pre .1))) in
     rw (c .first-block .ensures, bytes, sub-zero) (refl, few, omega arith, refl, refl, λ i. c .before .before .before .slice-known .given i .fits, refl)
@@ -125,7 +125,7 @@ set-up-map-spec =
     Inv-loop
     μ-loop
     block-of-requires
-    map-bytes-requires
+    map-bytes-for-requires
     mul-places
     first-block-requires
     loop-holds
