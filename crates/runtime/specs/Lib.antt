@@ -1,0 +1,2 @@
+-- What the checks of the operations find.
+pub mod Places
