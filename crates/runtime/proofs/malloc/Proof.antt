@@ -1,62 +1,59 @@
+-- `runtime::malloc` meets its contract. Assumes nothing.
+use mathlib.Core.Path.{refl, ap, _∙_}
+use Rattle.rules.specs.declared.RamByte.{RamByte}
+use Rattle.rules.specs.declared.Answer.the-variants.{Done}
+use Rattle.rules.specs.Memory.{setCodes}
+use Rattle.laws.proofs.Blocks.{blocksFor-pos}
+use Rattle.laws.proofs.Codes.{startCode-lt, laterCode-lt}
+use Rattle.laws.proofs.Good.{goodState-facts}
+use Rattle.runtime.proofs.Acts.{gives-as, give-refused, segment-run, room-codes, room-start, malloc-done}
 use borrow.Author.Needs.{needs}
 use Rattle.runtime.proofs.malloc.Statement.{statement}
 use Rattle.runtime.proofs.malloc.Tie as tie
-use Rattle.runtime.proofs.malloc.Reads as reads
-use Rattle.runtime.proofs.malloc.Lts as lts
-use Rattle.address.proofs.blocks_for.Reads as blocks-for-reads
-use Rattle.address.proofs.start_of.Reads as start-of-reads
-use Rattle.map.proofs.later_code.Reads as later-code-reads
-use Rattle.map.proofs.set_run.Reads as set-run-reads
-use Rattle.map.proofs.start_code.Reads as start-code-reads
-use Rattle.runtime.proofs.malloc_check.room.Reads as room-reads
 
--- src/lib.rt:39:9
 room-requires : tie.Need-room-requires
 room-requires c κs = search needs
 
--- src/lib.rt:41:19
 enum-known-place : tie.Need-enum-known-place
 enum-known-place c = search needs
 
--- src/lib.rt:44:46
 blocks-for-requires : tie.Need-blocks-for-requires
 blocks-for-requires c κs = search needs
 
--- src/lib.rt:44:73
 start-code-requires : tie.Need-start-code-requires
-start-code-requires c κs = ?
+start-code-requires c κs = goodState-facts _ ((rw (c .before .before .before .before .place .given .1) at (c .before .before .before .before .before .before .room .ensures)) .good) .domain≤trusted
 
--- src/lib.rt:44:93
 later-code-requires : tie.Need-later-code-requires
-later-code-requires c κs = ?
+later-code-requires c κs = goodState-facts _ ((rw (c .before .before .before .before .before .place .given .1) at (c .before .before .before .before .before .before .before .room .ensures)) .good) .domain≤trusted
 
--- src/lib.rt:44:13
 set-run-requires : tie.Need-set-run-requires
-set-run-requires c κs = ?
+set-run-requires c κs =
+    let room = rw (c .before .before .before .before .before .before .place .given .1) at (c .before .before .before .before .before .before .before .before .room .ensures) in
+    let domain = goodState-facts _ (room .good) .domain≤trusted in
+    rw (c .before .before .blocks-for .ensures, c .before .start-code .ensures, c .later-code .ensures)
+    (room .sized, (blocksFor-pos (room .some), (room-codes _ _ _ _ room, (startCode-lt _ domain, laterCode-lt _ domain))))
 
--- src/lib.rt:45:17
 start-of-requires : tie.Need-start-of-requires
-start-of-requires c κs = ?
+start-of-requires c κs = room-start _ _ _ _ (rw (c .before .before .before .before .before .before .before .before .before .place .given .1) at (c .before .before .before .before .before .before .before .before .before .before .before .room .ensures))
 
--- src/lib.rt:48:24
 enum-known-place-2 : tie.Need-enum-known-place-2
 enum-known-place-2 c = search needs
 
--- src/lib.rt:36:1
 same-length : tie.Need-same-length
 same-length c = search needs
 
--- src/lib.rt:36:1
 returns : tie.Need-returns
-returns c = ?
+returns c =
+    let room = rw (c .before .before .before .before .before .before .before .before .before .before .place .given .1) at (c .before .before .before .before .before .before .before .before .before .before .before .before .room .ensures) in
+    let wrote = rw (c .before .before .before .before .before .before .blocks-for .ensures, c .before .before .before .before .before .start-code .ensures, c .before .before .before .before .later-code .ensures) at (c .before .before .before .set-run .ensures) in
+    gives-as _ _ _ _ (malloc-done _ _ _ _ room)
+    (ap Done (ap (λ (b : RamByte). b .0) (c .start-of .ensures)), refl, wrote ∙ ap (setCodes _ _ _) (segment-run _ _ (blocksFor-pos (room .some))))
 
--- src/lib.rt:36:1
 same-length-2 : tie.Need-same-length-2
 same-length-2 c = search needs
 
--- src/lib.rt:36:1
 returns-2 : tie.Need-returns-2
-returns-2 c = ?
+returns-2 c = gives-as _ _ _ _ (give-refused _ _ _ _ _ _ (rw (c .before .place2 .given .1) at (c .before .before .before .room .ensures))) (refl, refl, refl)
 
 pub malloc-spec : {M : Type 1} → statement M
 malloc-spec =

@@ -1,0 +1,2 @@
+-- Facts that several proofs of this crate cite.
+pub mod Acts
