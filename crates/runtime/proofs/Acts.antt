@@ -71,10 +71,10 @@ module _ (k : Block) (s : State) (ram : List ℕ) (size : ℕ) (room : Room k s 
 
   pub malloc-done : mallocOf s ram size
       ≡ record {
-          answer = Done (startOf (s .config .bot) (k .0));
-          state = s;
-          ram = setCodes (s .config .bot) ram (k .0) (segmentCodes (s .domain) (blocksFor size));
-        }
+        answer = Done (startOf (s .config .bot) (k .0));
+        state = s;
+        ram = setCodes (s .config .bot) ram (k .0) (segmentCodes (s .domain) (blocksFor size));
+      }
   malloc-done =
       simp (eq-eqb _ _ (room .sized), room .good, room .untrusted, ne-eqb size 0 (omega (arith, room .some)), room .lowest)
 
@@ -104,18 +104,18 @@ module _ (k : Block) (s : State) (ram : List ℕ) (a : RamByte) (own : OwnSegmen
 
   pub free-done : freeOf s ram a
       ≡ record {
-          answer = Done (segmentBlocks (s .config) ram (k .0));
-          state = s;
-          ram = setCodes (s .config .bot) ram (k .0) (replicate (segmentBlocks (s .config) ram (k .0)) freeCode);
-        }
+        answer = Done (segmentBlocks (s .config) ram (k .0));
+        state = s;
+        ram = setCodes (s .config .bot) ram (k .0) (replicate (segmentBlocks (s .config) ram (k .0)) freeCode);
+      }
   free-done = rw (own .place) (simp (eq-eqb _ _ (own .sized), own .good, own .starts, eq-eqb _ _ (own .owned)))
 
   pub change-done : (d : ℕ) → d < trusted → changeOf s ram a d
       ≡ record {
-          answer = Done (segmentBlocks (s .config) ram (k .0));
-          state = s;
-          ram = setCodes (s .config .bot) ram (k .0) (segmentCodes d (segmentBlocks (s .config) ram (k .0)));
-        }
+        answer = Done (segmentBlocks (s .config) ram (k .0));
+        state = s;
+        ram = setCodes (s .config .bot) ram (k .0) (segmentCodes d (segmentBlocks (s .config) ram (k .0)));
+      }
   change-done d h =
       rw (own .place) (simp (eq-eqb _ _ (own .sized), own .good, own .starts, eq-eqb _ _ (own .owned), lt-leb trusted d h))
 

@@ -3,6 +3,7 @@ ghost use Rattle.rules.specs.Answers.{Gives};
 ghost use Rattle.rules.specs.SetUp.{setUpOf};
 ghost use Rattle.rules.specs.Malloc.{mallocOf};
 ghost use Rattle.rules.specs.Free.{freeOf, changeOf};
+
 mod malloc_check;
 mod places;
 mod segment_check;
@@ -23,13 +24,22 @@ pub fn set_up(config: Config, ram: &mut [u8]) -> Outcome
     ensures { λ r. ⌜ Gives r (now (ram .exit)) (setUpOf config (now (ram .entry))) ⌝ }
 {
     if ram.len() != RAM_BYTES {
-        return Outcome { answer: Answer::Refused(Refusal::WrongSize), state: states::zeros() };
+        return Outcome {
+            answer: Answer::Refused(Refusal::WrongSize),
+            state: states::zeros(),
+        };
     }
     if !good::good_config(config) {
-        return Outcome { answer: Answer::Refused(Refusal::BrokenRule), state: states::zeros() };
+        return Outcome {
+            answer: Answer::Refused(Refusal::BrokenRule),
+            state: states::zeros(),
+        };
     }
     map::set_up_map(config, ram);
-    Outcome { answer: Answer::Done(0), state: states::fresh(config) }
+    Outcome {
+        answer: Answer::Done(0),
+        state: states::fresh(config),
+    }
 }
 
 // Section 5: malloc, free, change.
@@ -41,11 +51,24 @@ pub fn malloc(state: State, ram: &mut [u8], size: u16) -> Outcome
         Place::At(k) => {
             let config = state.config;
             let d = state.domain;
-            map::set_run(config.bot, ram, k, address::blocks_for(size), map::start_code(d), map::later_code(d));
+            map::set_run(
+                config.bot,
+                ram,
+                k,
+                address::blocks_for(size),
+                map::start_code(d),
+                map::later_code(d),
+            );
             let start = address::start_of(config.bot, k);
-            Outcome { answer: Answer::Done(start.0), state }
+            Outcome {
+                answer: Answer::Done(start.0),
+                state,
+            }
         }
-        Place::Refused(refusal) => Outcome { answer: Answer::Refused(refusal), state },
+        Place::Refused(refusal) => Outcome {
+            answer: Answer::Refused(refusal),
+            state,
+        },
     }
 }
 
@@ -58,9 +81,15 @@ pub fn free(state: State, ram: &mut [u8], address: RamByte) -> Outcome
             let config = state.config;
             let n = map::segment_blocks(config, ram, k);
             map::set_run(config.bot, ram, k, n, map::free_code(), map::free_code());
-            Outcome { answer: Answer::Done(n), state }
+            Outcome {
+                answer: Answer::Done(n),
+                state,
+            }
         }
-        Place::Refused(refusal) => Outcome { answer: Answer::Refused(refusal), state },
+        Place::Refused(refusal) => Outcome {
+            answer: Answer::Refused(refusal),
+            state,
+        },
     }
 }
 
@@ -71,13 +100,29 @@ pub fn change(state: State, ram: &mut [u8], address: RamByte, domain: u8) -> Out
     match place {
         Place::At(k) => {
             if map::TRUSTED <= domain {
-                return Outcome { answer: Answer::Refused(Refusal::DomainAbove), state };
+                return Outcome {
+                    answer: Answer::Refused(Refusal::DomainAbove),
+                    state,
+                };
             }
             let config = state.config;
             let n = map::segment_blocks(config, ram, k);
-            map::set_run(config.bot, ram, k, n, map::start_code(domain), map::later_code(domain));
-            Outcome { answer: Answer::Done(n), state }
+            map::set_run(
+                config.bot,
+                ram,
+                k,
+                n,
+                map::start_code(domain),
+                map::later_code(domain),
+            );
+            Outcome {
+                answer: Answer::Done(n),
+                state,
+            }
         }
-        Place::Refused(refusal) => Outcome { answer: Answer::Refused(refusal), state },
+        Place::Refused(refusal) => Outcome {
+            answer: Answer::Refused(refusal),
+            state,
+        },
     }
 }

@@ -9,7 +9,12 @@ pub fn fresh(config: Config) -> State
     ensures { λ r. ⌜ r ≡ fresh config ⌝ }
 {
     let safepointer = config.safe;
-    State { config, domain: map::TRUSTED, bound: address::last_byte(), safepointer }
+    State {
+        config,
+        domain: map::TRUSTED,
+        bound: address::last_byte(),
+        safepointer,
+    }
 }
 
 pub fn zeros() -> State
@@ -17,8 +22,23 @@ pub fn zeros() -> State
 {
     let byte = address::zero_byte();
     let word = address::zero_word();
-    let empty = Range { start: word, end: word };
+    let empty = Range {
+        start: word,
+        end: word,
+    };
     let ranges = [empty; 8];
-    let config = Config { bot: byte, heap: byte, safe: byte, top: byte, jt: word, ranges };
-    State { config, domain: 0, bound: byte, safepointer: byte }
+    let config = Config {
+        bot: byte,
+        heap: byte,
+        safe: byte,
+        top: byte,
+        jt: word,
+        ranges,
+    };
+    State {
+        config,
+        domain: 0,
+        bound: byte,
+        safepointer: byte,
+    }
 }

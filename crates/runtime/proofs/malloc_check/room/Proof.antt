@@ -34,10 +34,13 @@ blocks-for-requires : tie.Need-blocks-for-requires
 blocks-for-requires c κs = search needs
 
 lowest-run-requires : tie.Need-lowest-run-requires
-lowest-run-requires c κs =
-    (c .before .before .before .before .before .before .before .if1 .left,
-    (config-good _ (not-false _ (rw (c .before .before .before .before .before .before .good-state .ensures) at (c .before .before .before .before .before .if2 .left))),
-    rw (c .blocks-for .ensures) (blocksFor-pos (omega arith))))
+lowest-run-requires c κs = (
+  c .before .before .before .before .before .before .before .if1 .left,
+  (
+    config-good _ (not-false _ (rw (c .before .before .before .before .before .before .good-state .ensures) at (c .before .before .before .before .before .if2 .left))),
+    rw (c .blocks-for .ensures) (blocksFor-pos (omega arith)),
+  ),
+)
 
 enum-known-found : tie.Need-enum-known-found
 enum-known-found c = search needs

@@ -55,11 +55,12 @@ returns-5 c =
     (refl, λ d. refl)
 
 code-of-requires : tie.Need-code-of-requires
-code-of-requires c κs =
-    (c .before .before .before .before .before .before .before .before .before .before .before .before .before .before .if1 .left,
-    rw (c .before .before .before .before .block-of .ensures)
-    (let good = passed (c .before .before .before .before .before .before .before .before .before .before .before .before .before .good-state .ensures) (c .before .before .before .before .before .before .before .before .before .before .before .before .if2 .left) in
-    code<ram _ (config-good _ good) _ (heap-block _ _ good (c .before .before .before .before .before .before .before .before .if3 .left) (c .before .before .before .before .before .if4 .left))))
+code-of-requires c κs = (
+  c .before .before .before .before .before .before .before .before .before .before .before .before .before .before .if1 .left,
+  rw (c .before .before .before .before .block-of .ensures)
+      (let good = passed (c .before .before .before .before .before .before .before .before .before .before .before .before .before .good-state .ensures) (c .before .before .before .before .before .before .before .before .before .before .before .before .if2 .left) in
+      code<ram _ (config-good _ good) _ (heap-block _ _ good (c .before .before .before .before .before .before .before .before .if3 .left) (c .before .before .before .before .before .if4 .left))),
+)
 
 starts-segment-requires : tie.Need-starts-segment-requires
 starts-segment-requires c κs = search needs
