@@ -1,11 +1,10 @@
 // Section 5, malloc: where its run lies, or which refusal it gets.
 ghost use Rattle.runtime.specs.Places.{RoomFor};
+use crate::RAM_BYTES;
 use crate::places::Place;
 use rules::Found;
 use rules::Refusal;
 use rules::State;
-
-const RAM_BYTES: usize = 4096;
 
 pub fn room(state: State, ram: &[u8], size: u16) -> Place
     ensures { λ r. ⌜ RoomFor r state (now (ram .entry)) size ⌝ }

@@ -1,11 +1,10 @@
 // Section 5, free and change: the segment that starts at an address, or which refusal both get.
 ghost use Rattle.runtime.specs.Places.{SegmentFor};
+use crate::RAM_BYTES;
 use crate::places::Place;
 use rules::RamByte;
 use rules::Refusal;
 use rules::State;
-
-const RAM_BYTES: usize = 4096;
 
 pub fn segment_at(state: State, ram: &[u8], address: RamByte) -> Place
     ensures { λ r. ⌜ SegmentFor r state (now (ram .entry)) address ⌝ }
