@@ -79,10 +79,17 @@ pub fn free(state: State, ram: &mut [u8], address: RamByte) -> Outcome
     match place {
         Place::At(k) => {
             let config = state.config;
-            let n = map::segment_blocks(config, ram, k);
-            map::set_run(config.bot, ram, k, n, map::free_code(), map::free_code());
+            let freed = map::segment_blocks(config, ram, k);
+            map::set_run(
+                config.bot,
+                ram,
+                k,
+                freed,
+                map::free_code(),
+                map::free_code(),
+            );
             Outcome {
-                answer: Answer::Done(n),
+                answer: Answer::Done(freed),
                 state,
             }
         }
@@ -106,17 +113,17 @@ pub fn change(state: State, ram: &mut [u8], address: RamByte, domain: u8) -> Out
                 };
             }
             let config = state.config;
-            let n = map::segment_blocks(config, ram, k);
+            let changed = map::segment_blocks(config, ram, k);
             map::set_run(
                 config.bot,
                 ram,
                 k,
-                n,
+                changed,
                 map::start_code(domain),
                 map::later_code(domain),
             );
             Outcome {
-                answer: Answer::Done(n),
+                answer: Answer::Done(changed),
                 state,
             }
         }

@@ -34,7 +34,7 @@ block-of-requires : tie.Need-block-of-requires Inv-loop μ-loop Inv-search μ-se
 block-of-requires c κs = bot≤safe _ (c .before .pre .1 .0)
 
 block-of-requires-2 : tie.Need-block-of-requires-2 Inv-loop μ-loop Inv-search μ-search
-block-of-requires-2 c κs = bot≤heap _ (c .before .before .pre .1 .0)
+block-of-requires-2 c κs = omega (arith, bot≤heap (c .before .before .args .config) (c .before .before .pre .1 .0))
 
 search-holds : tie.Need-search-holds Inv-loop μ-loop Inv-search μ-search
 unfolding heapBlock safeBlock lowestRun
