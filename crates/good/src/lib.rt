@@ -9,7 +9,7 @@ use rules::Config;
 use rules::State;
 
 // The trusted domain, the last of eight.
-pub const TRUSTED: u8 = 7;
+const TRUSTED: u8 = 7;
 
 // The jump tables end where flash does.
 const LAST_JT: u16 = 64512;

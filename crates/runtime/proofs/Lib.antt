@@ -1,4 +1,5 @@
--- What the proofs of this crate share: the rows of each table as the code passes them, and what is handed back.
+-- What several proofs of this crate cite: the rows of each table as the code passes them, and what is handed back.
+pub mod Acts
 pub mod StoreRows
 pub mod SafeStack
 pub mod CallRows

@@ -7,6 +7,7 @@ ghost use Rattle.rules.specs.Code.{tableWords, tableWord, calledDomain};
 ghost use Rattle.rules.specs.State.{goodState};
 ghost use Rattle.rules.specs.Call.{callAnswer};
 ghost use Rattle.runtime.specs.CallRows.{localRows, crossRows};
+use crate::RAM_BYTES;
 use rules::Answer;
 use rules::Config;
 use rules::FlashWord;
@@ -80,7 +81,7 @@ pub fn answer(
 ) -> Answer
     ensures { λ r. ⌜ r ≡ callAnswer state (now (ram .entry)) (now (table .entry)) target site pointer ⌝ }
 {
-    if ram.len() != address::RAM_BYTES as usize {
+    if ram.len() != RAM_BYTES {
         return Answer::Refused(Refusal::WrongSize);
     }
     if table.len() != TABLE_WORDS as usize {

@@ -7,6 +7,7 @@ ghost use Rattle.rules.specs.Memory.{ramBytes};
 ghost use Rattle.rules.specs.State.{goodState};
 ghost use Rattle.rules.specs.Return.{topFrame};
 ghost use Rattle.runtime.specs.ReturnRows.{earlyRows, judged};
+use crate::RAM_BYTES;
 use rules::Answer;
 use rules::Frame;
 use rules::Refusal;
@@ -16,7 +17,7 @@ use rules::State;
 pub fn early(state: State, ram: &[u8]) -> Answer
     ensures { λ r. ⌜ r ≡ earlyRows state (now (ram .entry)) ⌝ }
 {
-    if ram.len() != address::RAM_BYTES as usize {
+    if ram.len() != RAM_BYTES {
         return Answer::Refused(Refusal::WrongSize);
     }
     if !good::good_state(state) {

@@ -1,6 +1,7 @@
 // Section 5, store: which answer it gets. The map is read once.
 ghost use mathlib.Core.Path.{_≡_};
 ghost use Rattle.rules.specs.Store.{storeAnswer};
+use crate::RAM_BYTES;
 use rules::Answer;
 use rules::RamByte;
 use rules::Refusal;
@@ -9,7 +10,7 @@ use rules::State;
 pub fn answer(state: State, ram: &[u8], address: RamByte) -> Answer
     ensures { λ r. ⌜ r ≡ storeAnswer state (now (ram .entry)) address ⌝ }
 {
-    if ram.len() != address::RAM_BYTES as usize {
+    if ram.len() != RAM_BYTES {
         return Answer::Refused(Refusal::WrongSize);
     }
     if !good::good_state(state) {
@@ -18,7 +19,7 @@ pub fn answer(state: State, ram: &[u8], address: RamByte) -> Answer
     if address::RAM_BYTES <= address.0 {
         return Answer::Refused(Refusal::PastRam);
     }
-    if state.domain == good::TRUSTED {
+    if state.domain == map::TRUSTED {
         return Answer::Done(0);
     }
     let config = state.config;

@@ -7,9 +7,6 @@ use borrow.Author.Needs.{needs}
 use Rattle.runtime.proofs.call_check.answer.Statement.{statement}
 use Rattle.runtime.proofs.call_check.answer.Tie as tie
 
-cast-if1 : tie.Need-cast-if1
-cast-if1 c = search needs
-
 returns : tie.Need-returns
 returns c =
     let x = c .before .before .before .args in
@@ -64,7 +61,7 @@ pub answer-spec : {M : Type 1} → statement M
 answer-spec =
     tie.close
     (tie.spec
-    cast-if1 returns
+    returns
     cast-if2 returns-2
     good-state-requires
     returns-3

@@ -5,9 +5,6 @@ use borrow.Author.Needs.{needs}
 use Rattle.runtime.proofs.return_check.early.Statement.{statement}
 use Rattle.runtime.proofs.return_check.early.Tie as tie
 
-cast-if1 : tie.Need-cast-if1
-cast-if1 c = search needs
-
 returns : tie.Need-returns
 returns c =
     let x = c .before .before .args in
@@ -32,4 +29,4 @@ returns-4 c =
     a-frame (x .state) (x .ram .now) (c .before .before .before .before .before .before .if1 .left) (passed (c .before .before .before .before .before .good-state .ensures) (c .before .before .before .before .if2 .left)) (c .if3 .left)
 
 pub early-spec : {M : Type 1} → statement M
-early-spec = tie.close (tie.spec cast-if1 returns good-state-requires returns-2 returns-3 returns-4)
+early-spec = tie.close (tie.spec returns good-state-requires returns-2 returns-3 returns-4)

@@ -6,9 +6,6 @@ use borrow.Author.Needs.{needs}
 use Rattle.runtime.proofs.store_check.answer.Statement.{statement}
 use Rattle.runtime.proofs.store_check.answer.Tie as tie
 
-cast-if1 : tie.Need-cast-if1
-cast-if1 c = search needs
-
 returns : tie.Need-returns
 returns c =
     let x = c .before .before .args in
@@ -78,7 +75,7 @@ pub answer-spec : {M : Type 1} → statement M
 answer-spec =
     tie.close
     (tie.spec
-    cast-if1 returns
+    returns
     good-state-requires
     returns-2
     returns-3
