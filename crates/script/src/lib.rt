@@ -10,9 +10,7 @@ ghost use Rattle.script.specs.Run.{linesAt, written};
 
 mod header;
 mod incoming;
-mod numbers;
 mod operation;
-mod stub;
 mod text;
 
 use rules::Operation;
@@ -29,8 +27,8 @@ fn carry_out(state: State, ram: &mut [u8], table: &[u16], op: Operation) -> Outc
     ensures { λ r. ⌜ Gives r (now (ram .exit)) (operationOf state (now (ram .entry)) (now (table .entry)) op) ⌝ }
 {
     match op {
-        Operation::Store(address, byte) => stub::store(state, ram, address, byte),
-        Operation::Call(target, site, pointer) => stub::call(
+        Operation::Store(address, byte) => runtime::store(state, ram, address, byte),
+        Operation::Call(target, site, pointer) => runtime::call(
             state,
             ram,
             table,
@@ -38,10 +36,10 @@ fn carry_out(state: State, ram: &mut [u8], table: &[u16], op: Operation) -> Outc
             site,
             pointer,
         ),
-        Operation::Return => stub::ret(state, ram),
-        Operation::Malloc(size) => stub::malloc(state, ram, size),
-        Operation::Free(address) => stub::free(state, ram, address),
-        Operation::Change(address, domain) => stub::change(state, ram, address, domain),
+        Operation::Return => runtime::ret(state, ram),
+        Operation::Malloc(size) => runtime::malloc(state, ram, size),
+        Operation::Free(address) => runtime::free(state, ram, address),
+        Operation::Change(address, domain) => runtime::change(state, ram, address, domain),
     }
 }
 
@@ -94,10 +92,10 @@ pub fn run(input: &[u8], out: &mut [u8]) -> usize
     let mut table = [0u16; 1024];
     header::fill_table(input, &mut table);
     let mut ram = [0u8; 4096];
-    let o = stub::set_up(header::config_at(input), &mut ram);
+    let o = runtime::set_up(header::config_at(input), &mut ram);
     let at = text::put_set_up(out, o);
     let answer = o.answer;
-    if numbers::number_of(answer) != 0 {
+    if runtime::numbers::number_of(answer) != 0 {
         return at;
     }
     let state = o.state;
