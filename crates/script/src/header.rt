@@ -16,7 +16,7 @@ const COUNT_PLACE: usize = 46;
 
 const PAIRS_PLACE: usize = 48;
 
-const TABLE_WORDS: u16 = 1024;
+pub const TABLE_WORDS: u16 = 1024;
 
 // The mark HMT and the version 1.
 fn mark_good(input: &[u8]) -> bool

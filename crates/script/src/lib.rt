@@ -18,6 +18,10 @@ use rules::Outcome;
 use rules::Read;
 use rules::State;
 
+const RAM_BYTES: usize = address::RAM_BYTES as usize;
+
+const TABLE_WORDS: usize = header::TABLE_WORDS as usize;
+
 const MOST_BYTES: usize = 65536;
 // Enough for the text of any script: the lines of set-up, and a line for each byte behind the header.
 const MOST_TEXT: usize = 2357586;
@@ -89,9 +93,9 @@ pub fn run(input: &[u8], out: &mut [u8]) -> usize
     if !header::header_good(input) {
         return text::put_text(out, 0, b"bad\n");
     }
-    let mut table = [0u16; 1024];
+    let mut table = [0u16; TABLE_WORDS];
     header::fill_table(input, &mut table);
-    let mut ram = [0u8; 4096];
+    let mut ram = [0u8; RAM_BYTES];
     let o = runtime::set_up(header::config_at(input), &mut ram);
     let at = text::put_set_up(out, o);
     let answer = o.answer;
