@@ -12,3 +12,5 @@ pub mod Frames
 pub mod Parts
 pub mod Search
 pub mod Segments
+pub mod Rows
+pub mod SetUp
