@@ -25,11 +25,11 @@ use Rattle.laws.proofs.Good.{GoodConfig, in-heap}
 use Rattle.promises.specs.Operations.{Operation, store, call, return, malloc, free, change}
 use Rattle.promises.specs.History.{History, _then_, after, stateOf, ramOf, domainOf, byteAt, StoredBy, InMap, InSafeStack, Assumed, Stretch, none, next}
 use Rattle.promises.specs.Ledger.{Segment, ledger, firstBlock, endBlock, InSegment, InHeap}
-use Rattle.promises.specs.Calls.{Kind, OpenCall, cross, openCalls}
+use Rattle.promises.specs.Calls.{Kind, cross, OpenCall, boundIn, boundBy, openCalls}
 use Rattle.promises.specs.Promise.{_∈_, StoredByHolder, AbovePointer}
 use Rattle.promises.proofs.Row.{row-in-heap}
 use Rattle.promises.proofs.Shown.{member-owner, member-later}
-use Rattle.promises.proofs.Holds.{LeftBy, Chain, HoldsAfter}
+use Rattle.promises.proofs.Holds.{Chain, HoldsAfter}
 use Rattle.promises.proofs.Store.{storeRows, OwnStore, stored}
 use Rattle.promises.proofs.Call.{call-holds}
 use Rattle.promises.proofs.Return.{return-holds}
@@ -52,14 +52,15 @@ store-touches s ram a b x = by (storeAnswer s ram a) refl
     )
 
 -- the bound is at most the pointer of each open cross-domain call
-chain-bound : (c : Config) (d : ℕ) (b : RamByte) (ks : List OpenCall) → Chain c d b ks
-    → (k : OpenCall) → k ∈ ks → (p : RamByte) → k .kind ≡ cross p → b .0 ≤ p .0
-chain-bound c d b [] r k m p e = absurd m
-chain-bound c d b (j ∷ js) r k (inl q) p e =
-    let left : LeftBy (cross p) j d b = subst (λ (kind : Kind). LeftBy kind j d b) (sym (ap (λ (l : OpenCall). l .kind) q) ∙ e) (r .0 .left) in
+chain-bound : (c : Config) (ks : List OpenCall) → Chain c ks
+    → (k : OpenCall) → k ∈ ks → (d : ℕ) (p : RamByte) → k .kind ≡ cross d p → boundBy ks .0 ≤ p .0
+chain-bound c [] r k m d p e = absurd m
+chain-bound c (j ∷ js) r k (inl q) d p e =
+    let left : boundIn (j .kind) (j .bound) ≡ p =
+    ap (λ (kind : Kind). boundIn kind (j .bound)) (sym (ap (λ (l : OpenCall). l .kind) q) ∙ e) in
     omega (arith, ap (λ (a : RamByte). a .0) left)
-chain-bound c d b (j ∷ js) r k (inr m) p e =
-    omega (arith, r .0 .bound≤, chain-bound c (j .domain) (j .bound) js (r .1) k m p e)
+chain-bound c (j ∷ js) r k (inr m) d p e =
+    omega (arith, r .0 .bound≤, ap (λ (a : RamByte). a .0) (r .0 .bound), chain-bound c js (r .1) k m d p e)
 
 module _ (h : History) (i : HoldsAfter h) where
   touched : (o : Operation) (x : ℕ) → (InMap (stateOf h .config) x ⊎ InSafeStack (stateOf h .config) x → ⊥)
@@ -137,10 +138,10 @@ module _ (h : History) (i : HoldsAfter h) where
 
   pub stack-step : (k : OpenCall) → k ∈ openCalls h → (x : ℕ) → AbovePointer k x
       → (o : Operation) → byteAt (h then o) x ≢ byteAt h x → StoredBy h o x trusted
-  stack-step k m x (p, e, above, inside) o n =
+  stack-step k m x (f, p, e, above, inside) o n =
       let c : Config = stateOf h .config in
       let good : GoodConfig c = i .good .config in
-      let b : stateOf h .bound .0 ≤ p .0 = chain-bound c (domainOf h) (stateOf h .bound) (openCalls h) (i .chain) k m p e in
+      let b : stateOf h .bound .0 ≤ p .0 = rw (i .bound) (chain-bound c (openCalls h) (i .chain) k m f p e) in
       let t : c .top .0 ≤ x = omega (arith, i .good .top≤bound) in
       let w : StoredBy h o x (domainOf h) =
       touched o x

@@ -17,7 +17,7 @@ use Rattle.rules.specs.Malloc.{freeRun, firstRun, lowestRun}
 use Rattle.rules.specs.Free.{continued, segmentBlocks}
 use Rattle.laws.proofs.Parts.{set-bytes}
 use Rattle.promises.specs.Operations.{Operation, store, call, return, malloc, free, change}
-use Rattle.promises.specs.History.{History, setUp, after, domainOf, Bytes, Assumed}
+use Rattle.promises.specs.History.{History, setUp, after, configOf, domainOf, Bytes, Assumed}
 use Rattle.promises.specs.Ledger.{Segment, entered, replacedAt, ledger}
 use Rattle.promises.specs.Calls.{cross, openCalls}
 use Rattle.promises.specs.Sample.{sample, sampleTable, zeroRam, sampleOperations}
@@ -66,14 +66,14 @@ pub record Computed : Type 0 where
   pub at-8 : domainOf (first 7) ≡ 1
   pub ninth-ledger : ledger (first 9) ≡ segment 320 3 0 ∷ segment 344 1 1 ∷ []
   pub ninth-calls : openCalls (first 9)
-      ≡ record { kind = cross (ramByte 3990); site = flashWord 150; domain = 0; bound = ramByte 4000 }
-      ∷ record { kind = cross (ramByte 4000); site = flashWord 50; domain = 7; bound = ramByte 4095 }
+      ≡ record { kind = cross 1 (ramByte 3990); site = flashWord 150; domain = 0; bound = ramByte 4000 }
+      ∷ record { kind = cross 0 (ramByte 4000); site = flashWord 50; domain = 7; bound = ramByte 4095 }
       ∷ []
   pub end-ledger : ledger sampleHistory ≡ segment 320 3 0 ∷ []
   pub end-calls : openCalls sampleHistory ≡ []
 
 pub computed : Computed
-unfolding after ledger openCalls entered replacedAt dividedUp blockBytes blockOf blocksFor blocks heapBlock safeBlock isMultiple radix perByte mapBytesFor mapBytes digit setDigit mapByte mapDigit codeOf setCode setCodes startCode laterCode freeCode ownerOf startsSegment ordered apartFrom allApart goodConfig goodState setUpCode setUpCodes setUpRam startOf isFree readFrame freeRun firstRun lowestRun continued segmentBlocks
+unfolding after configOf ledger openCalls entered replacedAt dividedUp blockBytes blockOf blocksFor blocks heapBlock safeBlock isMultiple radix perByte mapBytesFor mapBytes digit setDigit mapByte mapDigit codeOf setCode setCodes startCode laterCode freeCode ownerOf startsSegment ordered apartFrom allApart goodConfig goodState setUpCode setUpCodes setUpRam startOf isFree readFrame freeRun firstRun lowestRun continued segmentBlocks
 computed =
     record {
       set-up = refl;

@@ -21,7 +21,7 @@ use Rattle.laws.proofs.Rows.{passed, give-answer}
 use Rattle.promises.specs.Operations.{Operation, store, call, return, malloc, free, change}
 use Rattle.promises.specs.History.{History, _then_, stateOf, ramOf, domainOf, answerTo}
 use Rattle.promises.specs.Ledger.{Segment, entered, replacedAt, struck, madeOver, booked, ledger}
-use Rattle.promises.specs.Calls.{OpenCall, openCalls}
+use Rattle.promises.specs.Calls.{OpenCall, domainBy, openCalls}
 use Rattle.promises.specs.Promise.{_∈_, OwnSegment}
 use Rattle.promises.proofs.Shown.{member-owner}
 use Rattle.promises.proofs.Holds.{Holds, HoldsAfter}
@@ -80,9 +80,9 @@ by-answer d o gs g m (Done v) done = done v refl
 pub segment-stays : (h : History) → HoldsAfter h
     → (g : Segment) → g ∈ ledger h → domainOf h ≢ g .owner → (o : Operation) → g ∈ ledger (h then o)
 unfolding ledger
-segment-stays h i g m n o = by-answer (domainOf h) o (ledger h) g m (answerTo h o) (done o)
+segment-stays h i g m n o = by-answer (domainBy (openCalls h)) o (ledger h) g m (answerTo h o) (done o)
   where
-    done : (o : Operation) (v : ℕ) → answerTo h o ≡ Done v → g ∈ booked (domainOf h) o (Done v) (ledger h)
+    done : (o : Operation) (v : ℕ) → answerTo h o ≡ Done v → g ∈ booked (domainBy (openCalls h)) o (Done v) (ledger h)
     done (store a b) v e = m
     done (call table t site p) v e = m
     done return v e = m

@@ -28,7 +28,7 @@ use Rattle.laws.proofs.Codes.{length-segmentCodes, segmentCodes-below}
 use Rattle.laws.proofs.Search.{found, found-in-heap, free-run-at, free-block}
 use Rattle.promises.specs.Operations.{malloc}
 use Rattle.promises.specs.Ledger.{Segment, entered, firstBlock, InHeap}
-use Rattle.promises.specs.Calls.{OpenCall}
+use Rattle.promises.specs.Calls.{OpenCall, domainBy}
 use Rattle.promises.proofs.Row.{enter-row, code-segment, code-past}
 use Rattle.promises.proofs.Holds.{Holds, Elsewhere, Kept, write-codes}
 
@@ -78,9 +78,9 @@ module _ (s : State) (ram : List ℕ) (gs : List Segment) (ks : List OpenCall) (
       → Holds s (setCodes (s .config .bot) ram (b .0) (segmentCodes (s .domain) n))
       (entered (record { address = startOf (s .config .bot) (b .0); blocks = n; owner = s .domain }) gs) ks
       × Elsewhere (s .config) ram (setCodes (s .config .bot) ram (b .0) (segmentCodes (s .domain) n))
-      → Holds s (taken s ram n (lowestRun (s .config) ram n)) (entered (record { address = v; blocks = n; owner = s .domain }) gs) ks
+      → Holds s (taken s ram n (lowestRun (s .config) ram n)) (entered (record { address = v; blocks = n; owner = domainBy ks }) gs) ks
       × Elsewhere (s .config) ram (taken s ram n (lowestRun (s .config) ram n))
-  answered n v b q w k = rw (q, ← w) k
+  answered n v b q w k = rw (q, ← w, ← (h .current)) k
 
   pub malloc-holds : (size : ℕ)
       → Kept s gs ks (malloc size) ram (mallocOf s ram size)

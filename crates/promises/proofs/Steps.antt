@@ -18,10 +18,10 @@ use Rattle.rules.specs.Return.{topFrame, returned, returnAnswer}
 use Rattle.rules.specs.Malloc.{mallocAnswer}
 use Rattle.rules.specs.Free.{freeAnswer, changeAnswer}
 use Rattle.promises.specs.Operations.{Operation, store, call, return, malloc, free, change, Fits, step}
-use Rattle.promises.specs.History.{History, setUp, _then_, after, stateOf, ramOf, configOf, StoredBy, InMap, InSafeStack, Assumed}
+use Rattle.promises.specs.History.{History, setUp, _then_, after, stateOf, ramOf, configOf, answerTo, StoredBy, InMap, InSafeStack, Assumed}
 use Rattle.promises.specs.Ledger.{ledger}
-use Rattle.promises.specs.Calls.{openCalls}
-use Rattle.promises.proofs.Holds.{After, HoldsAfter}
+use Rattle.promises.specs.Calls.{noted, openCalls}
+use Rattle.promises.proofs.Holds.{Holds, After, HoldsAfter}
 use Rattle.promises.proofs.SetUp.{set-up-holds}
 use Rattle.promises.proofs.Store.{store-holds}
 use Rattle.promises.proofs.Call.{call-holds}
@@ -70,6 +70,8 @@ always (setUp c ram) a = set-up-holds c ram (a .0) (a .1)
 always (h then o) a =
     let (e, i) = always h (a .0) in (
       step-config (stateOf h) (ramOf h) o ∙ e,
-      step-holds h i o (a .1)
-          (subst (λ (c : Config). (x : ℕ) → StoredBy h o x trusted → InMap c x ⊎ InSafeStack c x → ⊥) (sym e) (a .2)),
+      subst
+          (λ (c : Config). Holds (stateOf (h then o)) (ramOf (h then o)) (ledger (h then o)) (noted c o (answerTo h o) (openCalls h))) e
+          (step-holds h i o (a .1)
+          (subst (λ (c : Config). (x : ℕ) → StoredBy h o x trusted → InMap c x ⊎ InSafeStack c x → ⊥) (sym e) (a .2))),
     )

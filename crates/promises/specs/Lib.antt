@@ -2,8 +2,8 @@
 -- Demand 3: operations and histories, the two ghosts that are made from them, and the promise
 pub mod Operations
 pub mod History
-pub mod Ledger
 pub mod Calls
+pub mod Ledger
 pub mod Promise
 pub mod Incident
 -- demand 2 and section 10

@@ -22,7 +22,7 @@ use Rattle.rules.specs.Return.{returnOf}
 use Rattle.promises.specs.Operations.{Operation, free, change}
 use Rattle.promises.specs.History.{History, _then_, stateOf, ramOf, configOf, domainOf, answerTo, byteAt, StoredBy, Bytes, Assumed, Stretch}
 use Rattle.promises.specs.Ledger.{Segment, ledger, InSegment, InHeap, Apart, codeBy, shown}
-use Rattle.promises.specs.Calls.{OpenCall, cross, openCalls, framesOf, Returns}
+use Rattle.promises.specs.Calls.{OpenCall, cross, openCalls, domainBy, boundBy, framesOf, Returns}
 
 infix 4 _∈_
 -- x is one of a list
@@ -47,7 +47,7 @@ StoredByHolder g x h o = StoredBy h o x (g .owner) ⊎ StoredBy h o x trusted
 
 -- x is a byte of the run-time stack above the pointer with which the cross-domain call k was made
 abbrev pub AbovePointer : OpenCall → ℕ → Type 0
-AbovePointer k x = (p : RamByte) × (k .kind ≡ cross p) × (p .0 < x) × (x < ramBytes)
+AbovePointer k x = (e : ℕ) × (p : RamByte) × (k .kind ≡ cross e p) × (p .0 < x) × (x < ramBytes)
 
 pub record Promise (h : History) : Type 0 where
   -- "the map shows exactly the segments that the accepted requests leave": in address order;
@@ -68,6 +68,10 @@ pub record Promise (h : History) : Type 0 where
   pub changed : (a : RamByte) (d n : ℕ) → answerTo h (change a d) ≡ Done n → OwnSegment h a n
   -- "the safe stack holds exactly the open calls, oldest first": the bytes from safe to the safe pointer are their frames
   pub safeStack : slice (configOf h .safe .0) (stateOf h .safepointer .0) (ramOf h) ≡ framesOf (openCalls h)
+  -- and the current domain and the stack bound are what they leave: what the newest was made to, or the trusted domain and 4095 if there are
+  -- none
+  pub current : domainOf h ≡ domainBy (openCalls h)
+  pub bound : stateOf h .bound ≡ boundBy (openCalls h)
   -- "a return is refused only when there are none, and otherwise restores its own call's address, domain and bound"
   pub returns : Returns (openCalls h) (returnOf (stateOf h) (ramOf h))
   -- "a segment's bytes change only by stores of its domain or the trusted one": if the operation asked next changes one, it is such a store;
