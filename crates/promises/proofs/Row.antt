@@ -262,6 +262,19 @@ module _ (c : Config) where
         outside = λ fs k out. code-past f fs k (h .some) out;
       }
 
+  in-front : (f : Segment) (xs ys : List Segment) → f ∈ xs → f ∈ xs ++ ys
+  in-front f [] ys m = absurd m
+  in-front f (x ∷ xs) ys (inl e) = inl e
+  in-front f (x ∷ xs) ys (inr m) = inr (in-front f xs ys m)
+
+  pub replaced-has : (put : Segment → List Segment) (g f : Segment) → f ∈ put g → (lo : ℕ) (gs : List Segment) → Row lo gs → g ∈ gs
+      → f ∈ replacedAt (g .address) put gs
+  unfolding replacedAt
+  replaced-has put g f p lo [] r m = absurd m
+  replaced-has put g f p lo (e ∷ es) r (inl q) = rw (← q, eq-eqb (g .address) (g .address) refl) (in-front f (put g) es p)
+  replaced-has put g f p lo (e ∷ es) r (inr m) =
+      rw (address-behind e es (r .0) (r .2) g m) (inr (replaced-has put g f p (endBlock c e) es (r .2) m))
+
   pub replace-row : (put : Segment → List Segment) (g : Segment) → InPlaceOf g (put g) → (lo : ℕ) (gs : List Segment) → Row lo gs → g ∈ gs
       → Row lo (replacedAt (g .address) put gs)
       × ((k : ℕ) → firstBlock c g ≤ k → k < endBlock c g → codeBy c (replacedAt (g .address) put gs) k ≡ codeBy c (put g) k)

@@ -16,7 +16,7 @@ use Rattle.rules.specs.declared.RamByte.{RamByte}
 use Rattle.rules.specs.declared.Config.{Config}
 use Rattle.rules.specs.declared.Answer.the-variants.{Done}
 use Rattle.rules.specs.Memory.{ramBytes, heapBlock, safeBlock, mapBytes, perByte, codeOf, trusted}
-use Rattle.rules.specs.State.{goodState}
+use Rattle.rules.specs.State.{ramByte, goodState}
 use Rattle.rules.specs.SetUp.{setUpCode}
 use Rattle.rules.specs.Return.{returnOf}
 use Rattle.promises.specs.Operations.{Operation, free, change}
@@ -41,6 +41,12 @@ codeAfter h k = codeOf (configOf h .bot) (ramOf h) k
 abbrev pub OwnSegment : History → RamByte → ℕ → Type 0
 OwnSegment h a n = (g : Segment) × (g ∈ ledger h) × (g .address ≡ a .0) × (g .blocks ≡ n) × (g .owner ≡ domainOf h)
 
+-- the operation asked next gives g up: its own domain asks to free it, or to make it over to another
+abbrev pub GivesUp : Segment → History → Operation → Type 0
+GivesUp g h o =
+    (domainOf h ≡ g .owner)
+    × ((o ≡ free (ramByte (g .address))) ⊎ ((e : ℕ) × (e ≢ g .owner) × (o ≡ change (ramByte (g .address)) e)))
+
 -- the operation asked next is a store to x that is carried out while the segment's domain, or the trusted one, is current
 abbrev pub StoredByHolder : Segment → ℕ → History → Operation → Type 0
 StoredByHolder g x h o = StoredBy h o x (g .owner) ⊎ StoredBy h o x trusted
@@ -61,8 +67,8 @@ pub record Promise (h : History) : Type 0 where
   pub apart : Apart (configOf h) (heapBlock (configOf h)) (ledger h)
   -- each lies in the heap, none is empty, and their owners are 0 to 6
   pub inHeap : (g : Segment) → g ∈ ledger h → InHeap (configOf h) g
-  -- only its own domain gives a segment up: while another is current it stays, whatever is asked next
-  pub stays : (g : Segment) → g ∈ ledger h → domainOf h ≢ g .owner → (o : Operation) → g ∈ ledger (h then o)
+  -- only its own domain gives a segment up: it stays, whatever else is asked next
+  pub stays : (g : Segment) → g ∈ ledger h → (o : Operation) → (GivesUp g h o → ⊥) → g ∈ ledger (h then o)
   -- a free or a change of owner that is accepted is of a segment of the domain that asks, and its value is how many blocks that has
   pub freed : (a : RamByte) (n : ℕ) → answerTo h (free a) ≡ Done n → OwnSegment h a n
   pub changed : (a : RamByte) (d n : ℕ) → answerTo h (change a d) ≡ Done n → OwnSegment h a n
