@@ -13,17 +13,18 @@ use Rattle.rules.specs.declared.RamByte.{RamByte}
 use Rattle.rules.specs.declared.State.{State}
 use Rattle.rules.specs.declared.Answer.{Answer}
 use Rattle.rules.specs.declared.Answer.the-variants.{Done, Refused}
-use Rattle.rules.specs.Memory.{blockOf, heapBlock, codeOf, ownerOf}
+use Rattle.rules.specs.Memory.{blockOf, blocksFor, heapBlock, codeOf, ownerOf}
 use Rattle.rules.specs.State.{ramByte}
 use Rattle.rules.specs.Store.{ownerAt}
 use Rattle.rules.specs.Free.{isSegment, blocksAt, freeAnswer, changeAnswer}
 use Rattle.laws.proofs.Tests.{byTest}
 use Rattle.laws.proofs.Rows.{passed, give-answer}
+use Rattle.laws.proofs.Blocks.{blocksFor-holds, blocksFor-less}
 use Rattle.promises.specs.Operations.{Operation, store, call, return, malloc, free, change}
 use Rattle.promises.specs.History.{History, _then_, stateOf, ramOf, domainOf, answerTo}
 use Rattle.promises.specs.Ledger.{Segment, entered, replacedAt, struck, madeOver, booked, ledger}
 use Rattle.promises.specs.Calls.{OpenCall, domainBy, openCalls}
-use Rattle.promises.specs.Promise.{_∈_, OwnSegment, GivesUp}
+use Rattle.promises.specs.Promise.{_∈_, OwnSegment, GivenSegment, GivesUp}
 use Rattle.promises.proofs.Row.{replaced-has}
 use Rattle.promises.proofs.Shown.{member-owner}
 use Rattle.promises.proofs.Holds.{Holds, HoldsAfter}
@@ -107,6 +108,26 @@ segment-stays h i g m o keeps = by-answer (domainBy (openCalls h)) o (ledger h) 
     done (change a d) keeps v e =
         change-stays (stateOf h) (ramOf h) (ledger h) (openCalls h) i g m a d v (sym (give-answer _ (stateOf h) (ramOf h) (stateOf h) _) ∙ e)
         (λ q own n. keeps (own, inr (d, n, ap (λ (x : ℕ). change (ramByte x) d) (sym q))))
+
+-- ---- what is given is as large as was asked
+
+entered-has : (g : Segment) (gs : List Segment) → g ∈ entered g gs
+unfolding entered
+entered-has g [] = inl refl
+entered-has g (e ∷ es) = byTest (ltb (g .address) (e .address)) (λ t. rw t (inl refl)) (λ t. rw t (inr (entered-has g es)))
+
+pub given-segment : (h : History) → HoldsAfter h → (size v : ℕ) → answerTo h (malloc size) ≡ Done v → GivenSegment h size v
+unfolding ledger
+given-segment h i size v e =
+    let d : ℕ = domainBy (openCalls h) in
+    let g : Segment = record { address = v; blocks = blocksFor size; owner = d } in (
+      g,
+      subst (λ (x : Answer). g ∈ booked d (malloc size) x (ledger h)) (sym e) (entered-has g (ledger h)),
+      refl,
+      sym (i .current),
+      blocksFor-holds size,
+      blocksFor-less size,
+    )
 
 -- ---- what is given up is the domain's own
 

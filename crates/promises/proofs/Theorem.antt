@@ -14,7 +14,7 @@ use Rattle.promises.proofs.Row.{row-apart, row-in-heap}
 use Rattle.promises.proofs.Shown.{row-shown}
 use Rattle.promises.proofs.Return.{return-gives}
 use Rattle.promises.proofs.Steps.{always}
-use Rattle.promises.proofs.Keeping.{segment-stays, freed-own, changed-own}
+use Rattle.promises.proofs.Keeping.{segment-stays, given-segment, freed-own, changed-own}
 use Rattle.promises.proofs.Change.{segment-step, stack-step, stretch-same, unchanged}
 
 outside : (c : Config) (k : ℕ) → (IsHeapBlock c k → ⊥) → heapBlock c ≤ k → safeBlock c ≤ k
@@ -30,6 +30,7 @@ promise h a =
       apart = rw (← e) (row-apart (stateOf h .config) _ (ledger h) (i .row));
       inHeap = rw (← e) (row-in-heap (stateOf h .config) _ (ledger h) (i .row));
       stays = segment-stays h i;
+      given = given-segment h i;
       freed = freed-own h i;
       changed = λ a d n. changed-own h i a n d;
       safeStack = rw (← e) (i .frames);

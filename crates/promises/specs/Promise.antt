@@ -5,7 +5,7 @@
 -- `a ≡ b` they are the same; `h then o` the history h and after it the operation o; `a .0` the number in an address; `[]` the empty list,
 -- `k ∷ ks` the list that starts with k. The other words are of History.antt, Ledger.antt, Calls.antt and of the rules.
 -- Assumes nothing.
-use Prim.Native.Nat.{ℕ, _*_, _≤_, _<_}
+use Prim.Native.Nat.{ℕ, _+_, _*_, _≤_, _<_}
 use mathlib.Core.Path.{_≡_}
 use mathlib.Core.Bool.{true}
 use mathlib.Core.Logic.{_⊎_, _≢_}
@@ -15,11 +15,11 @@ use lib.Seq.{slice}
 use Rattle.rules.specs.declared.RamByte.{RamByte}
 use Rattle.rules.specs.declared.Config.{Config}
 use Rattle.rules.specs.declared.Answer.the-variants.{Done}
-use Rattle.rules.specs.Memory.{ramBytes, heapBlock, safeBlock, mapBytes, perByte, codeOf, trusted}
+use Rattle.rules.specs.Memory.{ramBytes, blockBytes, heapBlock, safeBlock, mapBytes, perByte, codeOf, trusted}
 use Rattle.rules.specs.State.{ramByte, goodState}
 use Rattle.rules.specs.SetUp.{setUpCode}
 use Rattle.rules.specs.Return.{returnOf}
-use Rattle.promises.specs.Operations.{Operation, free, change}
+use Rattle.promises.specs.Operations.{Operation, malloc, free, change}
 use Rattle.promises.specs.History.{History, _then_, stateOf, ramOf, configOf, domainOf, answerTo, byteAt, StoredBy, Bytes, Assumed, Stretch}
 use Rattle.promises.specs.Ledger.{Segment, ledger, InSegment, InHeap, Apart, codeBy, shown}
 use Rattle.promises.specs.Calls.{OpenCall, cross, openCalls, domainBy, boundBy, framesOf, Returns}
@@ -40,6 +40,12 @@ codeAfter h k = codeOf (configOf h .bot) (ramOf h) k
 -- at address a starts a segment of n blocks of the domain that is current
 abbrev pub OwnSegment : History → RamByte → ℕ → Type 0
 OwnSegment h a n = (g : Segment) × (g ∈ ledger h) × (g .address ≡ a .0) × (g .blocks ≡ n) × (g .owner ≡ domainOf h)
+
+-- after a malloc of size bytes the domain that was current has a segment at address v, of that size and less than a block more
+abbrev pub GivenSegment : History → ℕ → ℕ → Type 0
+GivenSegment h size v =
+    (g : Segment) × (g ∈ ledger (h then malloc size)) × (g .address ≡ v) × (g .owner ≡ domainOf h)
+    × (size ≤ g .blocks * blockBytes) × (g .blocks * blockBytes < size + blockBytes)
 
 -- the operation asked next gives g up: its own domain asks to free it, or to make it over to another
 abbrev pub GivesUp : Segment → History → Operation → Type 0
@@ -69,6 +75,9 @@ pub record Promise (h : History) : Type 0 where
   pub inHeap : (g : Segment) → g ∈ ledger h → InHeap (configOf h) g
   -- only its own domain gives a segment up: it stays, whatever else is asked next
   pub stays : (g : Segment) → g ∈ ledger h → (o : Operation) → (GivesUp g h o → ⊥) → g ∈ ledger (h then o)
+  -- a malloc that is accepted gives the domain that asks a segment at the address that is its value, as large as was asked and less than
+  -- a block larger
+  pub given : (size v : ℕ) → answerTo h (malloc size) ≡ Done v → GivenSegment h size v
   -- a free or a change of owner that is accepted is of a segment of the domain that asks, and its value is how many blocks that has
   pub freed : (a : RamByte) (n : ℕ) → answerTo h (free a) ≡ Done n → OwnSegment h a n
   pub changed : (a : RamByte) (d n : ℕ) → answerTo h (change a d) ≡ Done n → OwnSegment h a n
