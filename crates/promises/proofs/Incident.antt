@@ -22,14 +22,9 @@ use Rattle.promises.specs.Promise.{_∈_, GivesUp, StoredByHolder}
 use Rattle.promises.specs.Incident.{NoIncident}
 use Rattle.promises.proofs.Row.{row-in-heap}
 use Rattle.promises.proofs.Holds.{HoldsAfter}
-use Rattle.promises.proofs.Steps.{always}
+use Rattle.promises.proofs.Steps.{always, earlier}
 use Rattle.promises.proofs.Change.{segment-step, segment-place, segment-owner, unchanged}
 use Rattle.promises.proofs.Keeping.{segment-stays, freed-own}
-
--- a history is as assumed at each moment of it
-earlier : (P : History → Operation → Type 0) (from : History) {h : History} → Assumed h → Stretch P from h → Assumed from
-earlier P from a none = a
-earlier P from a (next before p) = earlier P from (a .0) before
 
 -- who frees is no trusted domain, which has no segment
 freed-by-module : (h : History) → Assumed h → (a : RamByte) (n : ℕ) → answerTo h (free a) ≡ Done n → domainOf h ≢ trusted

@@ -296,3 +296,14 @@ module _ (c : Config) where
         λ k l u. code-past f (replacedAt (g .address) put fs) k (r .0 .some) (λ h. omega arith) ∙ inside k l u,
         λ k out. code-cong f (replacedAt (g .address) put fs) fs k (outside k out),
       )
+
+  -- a free block stays free: it is none of g's
+  pub replaced-free : (put : Segment → List Segment) (g : Segment) → InPlaceOf g (put g) → (lo : ℕ) (gs : List Segment) → Row lo gs → g ∈ gs
+      → (k : ℕ) → codeBy c gs k ≡ freeCode → codeBy c (replacedAt (g .address) put gs) k ≡ freeCode
+  replaced-free put g new lo gs r m k free =
+      let (row, inside, outside) = replace-row put g new lo gs r m in
+      outside k
+      (λ l. byTest (ltb k (endBlock c g))
+      (λ t. absurd (code-held g [] k (row-in-heap lo gs r g m .byModule) l (ltb-true _ _ t) (sym (member-code lo gs r g m k l (ltb-true _ _ t)) ∙ free)))
+      (λ t. ltb-false _ _ t))
+      ∙ free

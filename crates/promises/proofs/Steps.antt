@@ -18,7 +18,7 @@ use Rattle.rules.specs.Return.{topFrame, returned, returnAnswer}
 use Rattle.rules.specs.Malloc.{mallocAnswer}
 use Rattle.rules.specs.Free.{freeAnswer, changeAnswer}
 use Rattle.promises.specs.Operations.{Operation, store, call, return, malloc, free, change, Fits, step}
-use Rattle.promises.specs.History.{History, setUp, _then_, after, stateOf, ramOf, configOf, answerTo, StoredBy, InMap, InSafeStack, Assumed}
+use Rattle.promises.specs.History.{History, setUp, _then_, after, stateOf, ramOf, configOf, answerTo, StoredBy, InMap, InSafeStack, Assumed, Stretch, none, next}
 use Rattle.promises.specs.Ledger.{ledger}
 use Rattle.promises.specs.Calls.{noted, openCalls}
 use Rattle.promises.proofs.Holds.{Holds, After, HoldsAfter}
@@ -75,3 +75,8 @@ always (h then o) a =
           (step-holds h i o (a .1)
           (subst (λ (c : Config). (x : ℕ) → StoredBy h o x trusted → InMap c x ⊎ InSafeStack c x → ⊥) (sym e) (a .2))),
     )
+
+-- a history is as assumed at each moment of it
+pub earlier : (P : History → Operation → Type 0) (from : History) {h : History} → Assumed h → Stretch P from h → Assumed from
+earlier P from a none = a
+earlier P from a (next before p) = earlier P from (a .0) before
