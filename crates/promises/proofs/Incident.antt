@@ -2,7 +2,7 @@
 -- Assumes nothing.
 use Prim.Native.Nat.{ℕ}
 use mathlib.Core.Path.{_≡_, refl, sym, _∙_}
-use mathlib.Core.Logic.{⊎-elim, _≢_}
+use mathlib.Core.Logic.{inl, ⊎-elim, _≢_}
 use native.Mathlib.Omega.{arith}
 use lib.ListN.{length}
 use borrow.Author.Tests.{eq-eqb, ne-eqb, lt-leb, lt-ltb, le-ltb}
@@ -17,6 +17,7 @@ use Rattle.laws.proofs.Rows.{give-answer}
 use Rattle.laws.proofs.Good.{GoodConfig, goodState-true, bot<heap}
 use Rattle.promises.specs.Operations.{Operation, store, free}
 use Rattle.promises.specs.History.{History, _then_, stateOf, ramOf, domainOf, byteAt, answerTo, Assumed, Stretch, none, next}
+use Rattle.promises.specs.Calls.{openCalls}
 use Rattle.promises.specs.Ledger.{Segment, ledger, InSegment}
 use Rattle.promises.specs.Promise.{_∈_, GivesUp, StoredByHolder}
 use Rattle.promises.specs.Incident.{NoIncident}
@@ -40,7 +41,7 @@ module _ (h : History) (i : HoldsAfter h) (g : Segment) (m : g ∈ ledger h)
   refused-store x q b =
       let c : Config = stateOf h .config in
       let good : GoodConfig c = i .good .config in
-      let (from, to) = segment-place h i g m (ramByte x) q in
+      let (from, to) = segment-place (stateOf h) (ramOf h) (ledger h) (openCalls h) i g m (ramByte x) q in
       give-answer (storeAnswer (stateOf h) (ramOf h) (ramByte x)) (stateOf h) (ramOf h) (stateOf h) _
       ∙ (rw (
         eq-eqb (length (ramOf h)) ramBytes (i .size),
@@ -49,13 +50,13 @@ module _ (h : History) (i : HoldsAfter h) (g : Segment) (m : g ∈ ledger h)
         ne-eqb (domainOf h) trusted module-current,
         le-ltb x (c .bot .0) (omega (arith, bot<heap good)),
         lt-ltb x (c .top .0) (omega (arith, good .safe≤top)),
-        segment-owner h i g m (ramByte x) q,
+        segment-owner (stateOf h) (ramOf h) (ledger h) (openCalls h) i g m (ramByte x) q,
         ne-eqb (g .owner) (domainOf h) (λ e. other (sym e)),
       ))
 
   same-bytes : (x : ℕ) → InSegment g x → (o : Operation) → byteAt (h then o) x ≡ byteAt h x
   same-bytes x q o =
-      unchanged _ _ (segment-step h i g m x q o)
+      unchanged _ _ (segment-step h i g o (inl m) x q)
       (⊎-elim (λ w. other (w .3)) (λ w. module-current (w .3)))
 
 -- ---- for any number of operations
@@ -70,7 +71,7 @@ same-on : (h : History) (g : Segment) → g ∈ ledger h → (x : ℕ) → InSeg
     → Stretch (λ k o. (GivesUp g k o → ⊥) × (StoredByHolder g x k o → ⊥)) h l → byteAt l x ≡ byteAt h x
 same-on h g m x q a none = refl
 same-on h g m x q a (next {h = k} {o = o} before (keeps, never)) =
-    unchanged _ _ (segment-step k (always k (a .0) .1) g (held-on h g m _ (λ k o p. p .0) (a .0) before) x q o) never
+    unchanged _ _ (segment-step k (always k (a .0) .1) g o (inl (held-on h g m _ (λ k o p. p .0) (a .0) before)) x q) never
     ∙ same-on h g m x q (a .0) before
 
 pub incident : NoIncident

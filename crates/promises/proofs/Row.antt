@@ -176,6 +176,17 @@ module _ (c : Config) where
   member-behind lo (f ∷ fs) r g (inl e) = rw e (r .1)
   member-behind lo (f ∷ fs) r g (inr m) = omega (arith, r .1, member-behind (endBlock c f) fs (r .2) g m)
 
+  -- two that have a block in common are one
+  pub member-one : (lo : ℕ) (gs : List Segment) → Row lo gs → (f g : Segment) → f ∈ gs → g ∈ gs → (k : ℕ)
+      → firstBlock c f ≤ k → k < endBlock c f → firstBlock c g ≤ k → k < endBlock c g → f ≡ g
+  member-one lo [] r f g m n k fl fu gl gu = absurd m
+  member-one lo (e ∷ es) r f g (inl p) (inl q) k fl fu gl gu = p ∙ sym q
+  member-one lo (e ∷ es) r f g (inl p) (inr n) k fl fu gl gu =
+      absurd (omega (arith, ap (endBlock c) p, member-behind (endBlock c e) es (r .2) g n))
+  member-one lo (e ∷ es) r f g (inr m) (inl q) k fl fu gl gu =
+      absurd (omega (arith, ap (endBlock c) q, member-behind (endBlock c e) es (r .2) f m))
+  member-one lo (e ∷ es) r f g (inr m) (inr n) k fl fu gl gu = member-one (endBlock c e) es (r .2) f g m n k fl fu gl gu
+
   pub member-code : (lo : ℕ) (gs : List Segment) → Row lo gs → (g : Segment) → g ∈ gs → (k : ℕ) → firstBlock c g ≤ k → k < endBlock c g
       → codeBy c gs k ≡ codeBy c (g ∷ []) k
   member-code lo [] r g m k l u = absurd m

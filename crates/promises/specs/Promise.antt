@@ -69,8 +69,9 @@ pub record Promise (h : History) : Type 0 where
   -- and each other place of the map the code that set-up wrote
   pub otherCodes : (k : ℕ) → k < mapBytes (configOf h) * perByte → (IsHeapBlock (configOf h) k → ⊥)
       → codeAfter h k ≡ setUpCode (configOf h) k
-  -- "no two sharing a block";
+  -- "no two sharing a block": they follow each other, and what has a byte in common is one segment;
   pub apart : Apart (configOf h) (heapBlock (configOf h)) (ledger h)
+  pub noneShared : (f g : Segment) → f ∈ ledger h → g ∈ ledger h → (x : ℕ) → InSegment f x → InSegment g x → f ≡ g
   -- each lies in the heap, none is empty, and their owners are 0 to 6
   pub inHeap : (g : Segment) → g ∈ ledger h → InHeap (configOf h) g
   -- only its own domain gives a segment up: it stays, whatever else is asked next
@@ -89,20 +90,21 @@ pub record Promise (h : History) : Type 0 where
   pub bound : stateOf h .bound ≡ boundBy (openCalls h)
   -- "a return is refused only when there are none, and otherwise restores its own call's address, domain and bound"
   pub returns : Returns (openCalls h) (returnOf (stateOf h) (ramOf h))
-  -- "a segment's bytes change only by stores of its domain or the trusted one": if the operation asked next changes one, it is such a store;
-  pub segmentStep : (g : Segment) → g ∈ ledger h → (x : ℕ) → InSegment g x
-      → (o : Operation) → byteAt (h then o) x ≢ byteAt h x → StoredByHolder g x h o
-  -- and over any stretch up to now in which the segment stayed and none was such a store, each of its bytes is what it was
+  -- "a segment's bytes change only by stores of its domain or the trusted one": if the operation asked next changes one, it is such a store,
+  -- whether the segment was there before or is made by that operation;
+  pub segmentStep : (g : Segment) (o : Operation) → (g ∈ ledger h) ⊎ (g ∈ ledger (h then o)) → (x : ℕ) → InSegment g x
+      → byteAt (h then o) x ≢ byteAt h x → StoredByHolder g x h o
+  -- and over any stretch up to now in which the segment was made and stayed, and none was such a store, each of its bytes is what it was
   pub segmentStretch : (g : Segment) (x : ℕ) → InSegment g x → (from : History)
-      → Stretch (λ l o. (g ∈ ledger l) × (StoredByHolder g x l o → ⊥)) from h → byteAt h x ≡ byteAt from x
+      → Stretch (λ l o. ((g ∈ ledger l) ⊎ (g ∈ ledger (l then o))) × (StoredByHolder g x l o → ⊥)) from h → byteAt h x ≡ byteAt from x
   -- "while a cross-domain call is open, stack bytes above its pointer change only by trusted stores": if the operation asked next changes
-  -- one, it is a trusted store;
-  pub stackStep : (k : OpenCall) → k ∈ openCalls h → (x : ℕ) → AbovePointer k x
-      → (o : Operation) → byteAt (h then o) x ≢ byteAt h x → StoredBy h o x trusted
-  -- and over any stretch up to now in which the call was open, whatever calls and returns lie between, and none was a trusted store to the
+  -- one, it is a trusted store, whether the call was open before or is opened by that operation;
+  pub stackStep : (k : OpenCall) (o : Operation) → (k ∈ openCalls h) ⊎ (k ∈ openCalls (h then o)) → (x : ℕ) → AbovePointer k x
+      → byteAt (h then o) x ≢ byteAt h x → StoredBy h o x trusted
+  -- and over any stretch up to now in which the call was opened and open, whatever calls and returns lie between, and none was a trusted store to the
   -- byte, it is what it was
   pub stackStretch : (k : OpenCall) (x : ℕ) → AbovePointer k x → (from : History)
-      → Stretch (λ l o. (k ∈ openCalls l) × (StoredBy l o x trusted → ⊥)) from h → byteAt h x ≡ byteAt from x
+      → Stretch (λ l o. ((k ∈ openCalls l) ⊎ (k ∈ openCalls (l then o))) × (StoredBy l o x trusted → ⊥)) from h → byteAt h x ≡ byteAt from x
   -- the configuration stays as it was given, the state stays good, and RAM stays 4,096 bytes
   pub sameConfig : stateOf h .config ≡ configOf h
   pub good : goodState (stateOf h) ≡ true
