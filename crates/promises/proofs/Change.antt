@@ -24,7 +24,7 @@ use Rattle.laws.proofs.Codes.{ownerOf-later}
 use Rattle.laws.proofs.Good.{GoodConfig, in-heap}
 use Rattle.promises.specs.Operations.{Operation, store}
 use Rattle.promises.specs.History.{History, _then_, after, stateOf, ramOf, configOf, domainOf, answerTo, byteAt, StoredBy, InMap, InSafeStack, Assumed, Stretch, none, next}
-use Rattle.promises.specs.Ledger.{Segment, booked, ledger, firstBlock, endBlock, InSegment, InHeap}
+use Rattle.promises.specs.Ledger.{Segment, booked, ledger, firstBlock, endBlock, InSegment, HeapSegment}
 use Rattle.promises.specs.Calls.{Kind, cross, OpenCall, boundIn, domainBy, boundBy, noted, openCalls}
 use Rattle.promises.specs.Promise.{_∈_, StoredByHolder, AbovePointer}
 use Rattle.promises.proofs.Row.{row-in-heap, member-one}
@@ -70,7 +70,7 @@ module _ (s : State) (ram : List ℕ) (gs : List Segment) (ks : List OpenCall) (
       → (firstBlock (s .config) g ≤ blockOf (s .config .bot) a) × (blockOf (s .config .bot) a < endBlock (s .config) g)
   segment-block g m a q =
       let c : Config = s .config in
-      let u : InHeap c g = row-in-heap c (heapBlock c) gs (i .row) g m in (
+      let u : HeapSegment c g = row-in-heap c (heapBlock c) gs (i .row) g m in (
         block-from (c .bot) a (firstBlock c g) (omega (arith, u .atBlock, q .0)),
         block-before (c .bot) a (endBlock c g) (omega (arith, u .atBlock, q .0, start-from (c .bot) (firstBlock c g)))
             (omega (arith, u .atBlock, q .1, start-add (c .bot) (firstBlock c g) (g .blocks))),
@@ -98,7 +98,7 @@ module _ (s : State) (ram : List ℕ) (gs : List Segment) (ks : List OpenCall) (
   pub segment-place : (g : Segment) → g ∈ gs → (a : RamByte) → InSegment g (a .0) → (s .config .heap .0 ≤ a .0) × (a .0 < s .config .safe .0)
   segment-place g m a q =
       let c : Config = s .config in
-      let u : InHeap c g = row-in-heap c (heapBlock c) gs (i .row) g m in
+      let u : HeapSegment c g = row-in-heap c (heapBlock c) gs (i .row) g m in
       let (l, r) = segment-block g m a q in
       in-heap (i .good .config) a (omega (arith, u .atBlock, q .0, start-from (c .bot) (firstBlock c g)))
       (omega (arith, u .fromHeap)) (omega (arith, u .toSafe))

@@ -33,7 +33,7 @@ use Rattle.laws.proofs.Good.{GoodConfig, goodState-facts, goodState-true, safeB
 use Rattle.promises.specs.Operations.{Operation, store, call, return, malloc, free, change}
 use Rattle.promises.specs.History.{History, _then_, after, stateOf, ramOf, configOf, answerTo, Assumed, Stretch, none, next}
 use Rattle.promises.specs.Calls.{domainBy, openCalls}
-use Rattle.promises.specs.Ledger.{Segment, replacedAt, struck, madeOver, booked, ledger, InHeap, codeBy}
+use Rattle.promises.specs.Ledger.{Segment, replacedAt, struck, madeOver, booked, ledger, HeapSegment, codeBy}
 use Rattle.promises.specs.Room.{FreeBlocks, RoomFound, FreedRoom, RoomStays}
 use Rattle.promises.proofs.Row.{row-in-heap, InPlaceOf, struck-place, over-place, replaced-free}
 use Rattle.promises.proofs.Holds.{HoldsAfter}
@@ -131,7 +131,7 @@ freed-room s ram a n done =
 
 module _ (h : History) (i : HoldsAfter h) (j : ℕ) (unowned : codeBy (stateOf h .config) (ledger h) j ≡ freeCode) where
   -- a free block stays free when a segment is freed or made over
-  still-free : (put : Segment → List Segment) (a : RamByte) → ((g : Segment) → InHeap (stateOf h .config) g → InPlaceOf (stateOf h .config) g (put g))
+  still-free : (put : Segment → List Segment) (a : RamByte) → ((g : Segment) → HeapSegment (stateOf h .config) g → InPlaceOf (stateOf h .config) g (put g))
       → isSegment (stateOf h .config) (ramOf h) a ≡ true → codeBy (stateOf h .config) (replacedAt (a .0) put (ledger h)) j ≡ freeCode
   still-free put a place t =
       let c : Config = stateOf h .config in

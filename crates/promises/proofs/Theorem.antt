@@ -7,12 +7,14 @@ use native.Mathlib.Omega.{arith}
 use Rattle.rules.specs.declared.Config.{Config}
 use Rattle.rules.specs.Memory.{heapBlock, safeBlock, trusted}
 use Rattle.laws.proofs.Good.{goodState-true, heapBlock≤safeBlock}
-use Rattle.promises.specs.History.{_then_, stateOf, ramOf, StoredBy}
+use Rattle.promises.specs.Operations.{return}
+use Rattle.promises.specs.History.{History, _then_, after, stateOf, ramOf, StoredBy}
 use Rattle.promises.specs.Ledger.{ledger}
-use Rattle.promises.specs.Calls.{openCalls}
+use Rattle.promises.specs.Calls.{openCalls, Returns}
 use Rattle.promises.specs.Promise.{_∈_, IsHeapBlock, StoredByHolder, Demand3}
 use Rattle.promises.proofs.Row.{row-apart, row-in-heap}
 use Rattle.promises.proofs.Shown.{row-shown}
+use Rattle.promises.proofs.Holds.{HoldsAfter}
 use Rattle.promises.proofs.Return.{return-gives}
 use Rattle.promises.proofs.Steps.{always}
 use Rattle.promises.proofs.Keeping.{segment-stays, given-segment, freed-own, changed-own}
@@ -20,6 +22,10 @@ use Rattle.promises.proofs.Change.{none-shared, segment-step, stack-ste
 
 outside : (c : Config) (k : ℕ) → (IsHeapBlock c k → ⊥) → heapBlock c ≤ k → safeBlock c ≤ k
 outside c k out l = let u : safeBlock c < suc k = lt-of-not-le (λ u. out (l, u)) in omega arith
+
+returns-after : (h : History) → HoldsAfter h → Returns (openCalls h) (after (h then return))
+unfolding after
+returns-after h i = return-gives (stateOf h) (ramOf h) (ledger h) (openCalls h) i
 
 pub promise : Demand3
 promise h a =
@@ -38,7 +44,7 @@ promise h a =
       safeStack = rw (← e) (i .frames);
       current = i .current;
       bound = i .bound;
-      returns = return-gives (stateOf h) (ramOf h) (ledger h) (openCalls h) i;
+      returns = returns-after h i;
       segmentStep = segment-step h i;
       segmentStretch = λ g x q from.
           stretch-same (λ l o. ((g ∈ ledger l) ⊎ (g ∈ ledger (l then o))) × (StoredByHolder g x l o → ⊥)) x from

@@ -1,5 +1,5 @@
 -- What stands behind an equation, or what a rule gives, determines the rest, so no second result satisfies a contract.
--- No axiom.
+-- Assumes nothing.
 use mathlib.Core.Path.{sym, ap, _∙_}
 use Rattle.rules.specs.Answers.{Given}
 use Rattle.promises.specs.Uniqueness.{Only, OnlyBoth, Determined, Uniqueness}

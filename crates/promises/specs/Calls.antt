@@ -1,5 +1,5 @@
 -- The open calls, made from the accepted calls and returns, and the bytes of their frames.
--- Assumes nothing.
+-- No axiom.
 use Prim.Native.Nat.{ℕ, _-_}
 use mathlib.Core.Path.{_≡_}
 use mathlib.Core.Bool.{cond}

@@ -1,6 +1,6 @@
 -- The incident: a module freed a segment, another module got it, and the first went on storing to it.
 -- The theorem is `incident` of proofs/Incident.antt: this cannot happen, whatever is asked, until that other module gives the segment up.
--- Assumes nothing.
+-- No axiom.
 use Prim.Native.Nat.{ℕ}
 use mathlib.Core.Path.{_≡_}
 use mathlib.Core.Logic.{_≢_}

@@ -1,5 +1,5 @@
 -- The segments that the accepted requests leave, and the segments that the map shows.
--- Assumes nothing.
+-- No axiom.
 use Prim.Native.Nat.{ℕ, zero, suc, _+_, _-_, _*_, _≤_, _<_}
 use mathlib.Core.Path.{_≡_}
 use mathlib.Core.Bool.{cond, _&&_}
@@ -69,7 +69,7 @@ abbrev pub InSegment : Segment → ℕ → Type 0
 InSegment g x = (g .address ≤ x) × (x < g .address + g .blocks * blockBytes)
 
 -- it starts where a block starts, lies in the heap, isn't empty, and its owner is 0 to 6
-pub record InHeap (c : Config) (g : Segment) : Type 0 where
+pub record HeapSegment (c : Config) (g : Segment) : Type 0 where
   pub atBlock : startOf (c .bot) (firstBlock c g) ≡ g .address
   pub fromHeap : heapBlock c ≤ firstBlock c g
   pub toSafe : endBlock c g ≤ safeBlock c

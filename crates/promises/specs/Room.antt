@@ -1,6 +1,6 @@
 -- Demand 2: malloc is refused for lack of room only if there is none, and what was freed is room again.
 -- The theorems are `room-found`, `freed-room` and `room-stays` of proofs/Room.antt.
--- Assumes nothing.
+-- No axiom.
 use Prim.Native.Nat.{ℕ, _+_, _*_, _≤_, _<_}
 use mathlib.Core.Path.{_≡_}
 use mathlib.Core.Bool.{true}
