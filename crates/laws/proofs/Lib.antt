@@ -14,3 +14,4 @@ pub mod Search
 pub mod Segments
 pub mod Rows
 pub mod SetUp
+pub mod Answers
