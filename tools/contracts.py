@@ -10,7 +10,7 @@ are really written: it reads each crate's sources and passes a public function i
     GivesToC r (now (x .exit)) (now (y .exit)) ..
 
 if what stands behind names nothing that the function leaves (but a result that the product has determined), if the result and every
-place lent with &mut are determined, and if uniqueness has a field of its name where its form is `Gives` or `GivesToC`.
+place lent with &mut are determined, and if uniqueness has a field about the rule that a `Gives` or `GivesToC` names.
 A function is public if its file is open from the crate's root on. One with a `requires` is named as such: only proved code calls it.
 The last line printed is 'contracts: N passed, M failed'."""
 import os
@@ -19,6 +19,7 @@ import sys
 
 ROOT = os.path.dirname(os.path.dirname(os.path.abspath(__file__)))
 FIELDS = "crates/promises/specs/Uniqueness.antt"
+ABOUT = {"Gives": "Determined", "GivesToC": "DeterminedToC"}
 OPEN, CLOSE = "([{⌜", ")]}⌝"
 
 
@@ -95,7 +96,7 @@ def names(text, name):
     return re.search(rf"(?<![\w.«]){re.escape(name)}(?![\w»])", text) is not None
 
 
-def judge(part, result, known):
+def judge(part, result, known, fields):
     """What one part of a contract determines, with the form it has; known is what the parts before it determine."""
     exits = re.match(r"(Gives|GivesToC) (\w+)((?: \(now \(\w+ \.exit\)\))+) (.*)$", part)
     if exits:
@@ -103,6 +104,9 @@ def judge(part, result, known):
         if exits.group(2) != result or len(left) != {"Gives": 1, "GivesToC": 2}[form]:
             raise ValueError(f"`{part}` is not what {form} is about")
         settled = {result, *left}
+        rule = bare(value).partition(" ")[0]
+        if (ABOUT[form], rule) not in fields:
+            raise ValueError(f"{FIELDS} has no field with `{ABOUT[form]} ({rule} ..)`")
     else:
         sides = split(part, "≡")
         place = re.fullmatch(r"now \((\w+) \.exit\)", sides[0])
@@ -117,7 +121,7 @@ def judge(part, result, known):
     return form, settled
 
 
-def contract(name, lent, hands, clauses, fields):
+def contract(lent, hands, clauses, fields):
     """The forms of a contract, or raise ValueError with what is wrong."""
     forms, known = [], set()
     parts = []
@@ -133,20 +137,18 @@ def contract(name, lent, hands, clauses, fields):
     for bound, part in parts:
         if bound != result:
             raise ValueError("its result has two names")
-        form, settled = judge(part, result, known)
+        form, settled = judge(part, result, known, fields)
         known |= settled
         forms.append(form)
     open_still = [x for x in [result] * hands + lent if x not in known]
     if open_still:
         raise ValueError("left open: " + ", ".join(open_still))
-    if set(forms) & {"Gives", "GivesToC"} and name not in fields:
-        raise ValueError(f"{FIELDS} has no field `{name}`")
     return " × ".join(forms)
 
 
 def main():
     with open(os.path.join(ROOT, FIELDS), encoding="utf-8") as spec:
-        fields = set(re.findall(r"^  pub «?(\w+)»? :", spec.read(), re.M))
+        fields = set(re.findall(r"→ (Determined|DeterminedToC) \((\w+) ", spec.read()))
     passed, failed, leaves = 0, 0, []
     crates = os.path.join(ROOT, "crates")
     for crate in sorted(os.listdir(crates)):
@@ -156,7 +158,7 @@ def main():
                 for name, lent, hands, clauses in functions(read(path)):
                     full = "::".join((crate, *inner, name))
                     try:
-                        print(f"contract {full}: {contract(name, lent, hands, clauses, fields)}")
+                        print(f"contract {full}: {contract(lent, hands, clauses, fields)}")
                         passed += 1
                     except ValueError as wrong:
                         print(f"contract {full}: FAILED: {wrong}")
