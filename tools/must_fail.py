@@ -5,7 +5,7 @@
 promise or in the code that follows the rule. Each must-fail/*.edit here has lines
 
     crate: promises                     the crate that must refuse it; all that it rests on must still be proved
-    fact: limits                        the declaration whose proof must be the first to fail
+    fact: limits                        the declaration whose proof must fail: one that the edit makes false
     file: crates/rules/specs/Memory.antt
     old: ..                             text that stands there once
     new: ..
@@ -67,11 +67,13 @@ def refused(path):
         text = run.stdout + run.stderr
     if run.returncode == 0:
         raise ValueError(f"NOT REFUSED: {crate} is still proved")
-    first = re.search(r"crates/(\w+)/\S+?:\d+:\d+: error: (?:in )?`([^`]+)`", text)
-    if not first:
+    # what only waits for another fact is not counted
+    errors = re.findall(r"crates/(\w+)/\S+?:\d+:\d+: error: (?:in )?`([^`]+)`(?!: `[^`]+` was not admitted)", text)
+    if not errors:
         raise ValueError(f"it did not reach the prover (exit {run.returncode}): {text[-300:]}")
-    if (first.group(1), first.group(2)) != (crate, fact):
-        raise ValueError(f"refused at {first.group(1)}, `{first.group(2)}`, and not at {crate}, `{fact}`")
+    if (crate, fact) not in errors:
+        places = ", ".join(dict.fromkeys(f"{where} `{what}`" for where, what in errors))
+        raise ValueError(f"refused at {places}, and not at {crate} `{fact}`")
     return f"{crate}, `{fact}`"
 
 

@@ -10,7 +10,7 @@ use borrow.Author.Tests.{eqb-true}
 use Rattle.rules.specs.declared.RamByte.{RamByte}
 use Rattle.rules.specs.Memory.{blockBytes, startOf, blockOf, isMultiple, blocksFor}
 use Rattle.rules.specs.State.{ramByte}
-use Rattle.laws.proofs.Rounding.{up-holds, up-least, up-exact, up-le, up-pos}
+use Rattle.laws.proofs.Rounding.{up-holds, up-less, up-least, up-exact, up-le, up-pos}
 
 -- ---- over any block size b, from any number bot on
 
@@ -116,6 +116,10 @@ block-small bot a = omega (arith, div-le-self (a .0 - bot .0) blockBytes)
 pub blocksFor-holds : (size : ℕ) → size ≤ blocksFor size * blockBytes
 unfolding blocksFor
 blocksFor-holds = up-holds blockBytes-pos
+
+pub blocksFor-less : (size : ℕ) → blocksFor size * blockBytes < size + blockBytes
+unfolding blocksFor
+blocksFor-less = up-less blockBytes-pos
 
 pub blocksFor-least : {size : ℕ} (n : ℕ) → size ≤ n * blockBytes → blocksFor size ≤ n
 unfolding blocksFor

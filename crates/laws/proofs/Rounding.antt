@@ -2,7 +2,7 @@
 -- Assumes nothing.
 use Prim.Native.Nat.{ℕ, suc, _+_, _-_, _*_, _<_, _≤_}
 use mathlib.Core.Path.{_≡_}
-use native.Mathlib.Nat.{lt-div-mul-add, div-lt-iff-lt-mul, suc-mul, le-mul-of-pos-right, le-of-mul-le-mul-right, lt-of-mul-lt-mul-right}
+use native.Mathlib.Nat.{lt-div-mul-add, div-mul-le-self, div-lt-iff-lt-mul, suc-mul, le-mul-of-pos-right, le-of-mul-le-mul-right, lt-of-mul-lt-mul-right}
 use native.Mathlib.Omega.{arith}
 use Rattle.rules.specs.Memory.{dividedUp}
 
@@ -11,6 +11,11 @@ module _ {d : ℕ} (pos : 0 < d) where
   pub up-holds : (n : ℕ) → n ≤ dividedUp n d * d
   unfolding dividedUp
   up-holds n = omega (arith, lt-div-mul-add {a = n + (d - 1)} pos)
+
+  -- with less than one part to spare
+  pub up-less : (n : ℕ) → dividedUp n d * d < n + d
+  unfolding dividedUp
+  up-less n = omega (arith, div-mul-le-self (n + (d - 1)) d)
 
   -- and no fewer would
   pub up-least : {n : ℕ} (k : ℕ) → n ≤ k * d → dividedUp n d ≤ k

@@ -30,8 +30,8 @@ use Rattle.laws.proofs.Frames.{Fits, frame-bytes}
 use Rattle.laws.proofs.Good.{GoodConfig, safeBlock≤blocks, blocks≤places, site-fits}
 use Rattle.promises.specs.Operations.{call}
 use Rattle.promises.specs.Ledger.{Segment}
-use Rattle.promises.specs.Calls.{Kind, local, cross, OpenCall, frameFor, framesOf}
-use Rattle.promises.proofs.Holds.{LeftBy, Holds, Elsewhere, Kept, same-code}
+use Rattle.promises.specs.Calls.{Kind, local, cross, OpenCall, domainIn, boundIn, frameFor, framesOf}
+use Rattle.promises.proofs.Holds.{Holds, Elsewhere, Kept, same-code}
 
 -- the table of call
 abbrev pub callRows : State → List ℕ → List ℕ → FlashWord → FlashWord → RamByte → List (Bool × Refusal)
@@ -53,19 +53,19 @@ module _ (s : State) (ram : List ℕ) (gs : List Segment) (ks : List OpenCall) (
 
   frame-fits : (kind : Kind) (site : FlashWord) → goodSite (s .config) (s .domain) site ≡ true → Fits (frameFor kind (madeHere kind site))
   frame-fits local site e = omega (arith, site-fits (h .good .config) (s .domain) site e)
-  frame-fits (cross p) site e =
+  frame-fits (cross f p) site e =
       (omega (arith, site-fits (h .good .config) (s .domain) site e), omega (arith, h .good .bound<ram), omega (arith, h .good .domain≤trusted))
 
   push-keeps : (kind : Kind) (site : FlashWord) (d : ℕ) (b : RamByte)
       → let k = madeHere kind site in
       let vs = frameBytes (frameFor kind k) in
-      LeftBy kind k d b → goodSite (s .config) (s .domain) site ≡ true → d ≤ trusted
+      d ≡ domainIn kind (s .domain) → b ≡ boundIn kind (s .bound) → goodSite (s .config) (s .domain) site ≡ true → d ≤ trusted
       → s .config .top .0 - 1 ≤ b .0 → b .0 ≤ s .bound .0 → s .safepointer .0 + length vs ≤ s .config .top .0
       → Holds (record { config = s .config; domain = d; bound = b; safepointer = ramByte (s .safepointer .0 + length vs) })
       (sets ram (s .safepointer .0) vs) gs (k ∷ ks)
       × Elsewhere (s .config) ram (sets ram (s .safepointer .0) vs)
   unfolding framesOf
-  push-keeps kind site d b left e m from to fits =
+  push-keeps kind site d b current bound e m from to fits =
       let c : Config = s .config in
       let g : GoodConfig c = h .good .config in
       let vs : List ℕ = frameBytes (frameFor kind (madeHere kind site)) in
@@ -92,12 +92,15 @@ module _ (s : State) (ram : List ℕ) (gs : List Segment) (ks : List OpenCall) (
           frames =
               slice-pushed (c .safe .0) (s .safepointer .0) ram vs (h .good .safe≤safepointer) (omega (arith, h .size, g .top≤ram))
               ∙ ap (λ (xs : List ℕ). xs ++ vs) (h .frames);
+          current = current;
+          bound = bound;
           chain = (
             record {
-              left = left;
+              domain = h .current;
+              bound = h .bound;
               site = e;
               domain≤trusted = h .good .domain≤trusted;
-              bound≤ = to;
+              bound≤ = rw (← bound) to;
               bound<ram = h .good .bound<ram;
             },
             h .chain,
@@ -128,10 +131,10 @@ module _ (s : State) (ram : List ℕ) (gs : List Segment) (ks : List OpenCall) (
           let fits : s .safepointer .0 + length (frameBytes (frameOf s t site)) ≤ s .config .top .0 = ltb-false _ _ (n .1 .1 .1 .1 .1 .1 .1 .0) in
           byTest (isLocal (s .config) t)
           (λ u.
-          rw u (push-keeps local site (s .domain) (s .bound) (refl, refl) good (h .good .domain≤trusted) (h .good .top≤bound) (omega arith) (rw u at fits)))
+          rw (u, ← (h .current), ← (h .bound)) (push-keeps local site (s .domain) (s .bound) refl refl good (h .good .domain≤trusted) (h .good .top≤bound) (omega arith) (rw u at fits)))
           (λ u.
           let past : leb tableWords (tableWord (s .config) t) ≡ false = rw u at (n .1 .1 .1 .1 .0) in
           let pointer : pointerOutside s p ≡ false = rw u at (n .1 .1 .1 .1 .1 .1 .0) in
           let (low, high) = neither _ _ pointer in
-          rw u (push-keeps (cross p) site (calledDomain (s .config) t) p refl good
+          rw (u, ← (h .current), ← (h .bound)) (push-keeps (cross (calledDomain (s .config) t) p) site (calledDomain (s .config) t) p refl refl good
           (omega (arith, leb-false tableWords (tableWord (s .config) t) past)) (ltb-false _ _ low) (ltb-false _ _ high) (rw u at fits)))

@@ -26,7 +26,7 @@ use Rattle.laws.proofs.AllBelow.{AllBelow, all-replicate}
 use Rattle.laws.proofs.Codes.{freeCode-lt, length-segmentCodes, segmentCodes-below}
 use Rattle.laws.proofs.Good.{GoodConfig, bot<heap, from-heap, to-safe}
 use Rattle.promises.specs.Operations.{free, change}
-use Rattle.promises.specs.Ledger.{Segment, replacedAt, struck, madeOver, firstBlock, InHeap, codeBy}
+use Rattle.promises.specs.Ledger.{Segment, replacedAt, struck, madeOver, firstBlock, HeapSegment, codeBy}
 use Rattle.promises.specs.Calls.{OpenCall}
 use Rattle.promises.specs.Promise.{_∈_}
 use Rattle.promises.proofs.Row.{row-in-heap, holder, InPlaceOf, struck-place, over-place, replace-row, code-none, code-segment}
@@ -96,7 +96,7 @@ module _ (s : State) (ram : List ℕ) (gs : List Segment) (ks : List OpenCall) (
 
   -- new codes for the blocks of the segment at an address, and the ledger with something in its place
   replace-keeps : (put : Segment → List Segment) (codes : ℕ → List ℕ) (a : RamByte) (at : SegmentAt s ram gs a)
-      → ((g : Segment) → InHeap (s .config) g → InPlaceOf (s .config) g (put g))
+      → ((g : Segment) → HeapSegment (s .config) g → InPlaceOf (s .config) g (put g))
       → ((n : ℕ) → length (codes n) ≡ n) → ((n : ℕ) → AllBelow radix (codes n))
       → ((g : Segment) (i : ℕ) → i < g .blocks → codeBy (s .config) (put g) (firstBlock (s .config) g + i) ≡ getD (codes (g .blocks)) i 0)
       → let ram′ = setCodes (s .config .bot) ram (blockOf (s .config .bot) a) (codes (blocksAt s ram a)) in
@@ -104,7 +104,7 @@ module _ (s : State) (ram : List ℕ) (gs : List Segment) (ks : List OpenCall) (
   replace-keeps put codes a at place len below new =
       let c : Config = s .config in
       let g : Segment = at .segment in
-      let in-heap : InHeap c g = row-in-heap c (heapBlock c) gs (h .row) g (at .member) in
+      let in-heap : HeapSegment c g = row-in-heap c (heapBlock c) gs (h .row) g (at .member) in
       let n : length (codes (g .blocks)) ≡ g .blocks = len (g .blocks) in
       let (row, inside, outside) = replace-row c put g (place g in-heap) (heapBlock c) gs (h .row) (at .member) in
       rw (at .count, ← (at .first), ← (at .address))

@@ -10,7 +10,6 @@ use lib.ListN.{length, getD}
 use lib.Seq.{slice, ext-getD, length-slice, getD-take, getD-drop}
 use lib.Dec.{ltb}
 use borrow.Author.Tests.{ltb-true, ltb-false}
-use Rattle.rules.specs.declared.RamByte.{RamByte}
 use Rattle.rules.specs.declared.Config.{Config}
 use Rattle.rules.specs.declared.State.{State}
 use Rattle.rules.specs.Memory.{ramBytes, heapBlock, safeBlock, radix, perByte, mapBytes, mapByte, codeOf, setCodes, trusted}
@@ -24,28 +23,25 @@ use Rattle.laws.proofs.Good.{GoodConfig, GoodState, safeBlock≤blocks, blocks�
 use Rattle.promises.specs.History.{History, stateOf, ramOf, InMap, InSafeStack, Bytes}
 use Rattle.promises.specs.Operations.{Operation}
 use Rattle.promises.specs.Ledger.{Segment, booked, ledger, codeBy}
-use Rattle.promises.specs.Calls.{Kind, local, cross, OpenCall, noted, openCalls, framesOf}
+use Rattle.promises.specs.Calls.{OpenCall, boundIn, domainBy, boundBy, noted, openCalls, framesOf}
 use Rattle.promises.proofs.Row.{Row}
 use Rattle.promises.proofs.Shown.{Codes}
 
 -- ---- the chain of open calls
 
--- domain d and bound b are those that the call k left
-abbrev pub LeftBy : Kind → OpenCall → ℕ → RamByte → Type 0
-LeftBy local k d b = (d ≡ k .domain) × (b ≡ k .bound)
-LeftBy (cross p) k d b = b ≡ p
-
-pub record Link (c : Config) (d : ℕ) (b : RamByte) (k : OpenCall) : Type 0 where
-  pub left : LeftBy (k .kind) k d b
+-- the call k, made while ks were open
+pub record Link (c : Config) (k : OpenCall) (ks : List OpenCall) : Type 0 where
+  pub domain : k .domain ≡ domainBy ks
+  pub bound : k .bound ≡ boundBy ks
   pub site : goodSite c (k .domain) (k .site) ≡ true
   pub domain≤trusted : k .domain ≤ trusted
-  pub bound≤ : b .0 ≤ k .bound .0
+  pub bound≤ : boundIn (k .kind) (k .bound) .0 ≤ k .bound .0
   pub bound<ram : k .bound .0 < ramBytes
 
 -- each was made where the one before it left the machine
-abbrev pub Chain : Config → ℕ → RamByte → List OpenCall → Type 0
-Chain c d b [] = Unit {0}
-Chain c d b (k ∷ ks) = Link c d b k × Chain c (k .domain) (k .bound) ks
+abbrev pub Chain : Config → List OpenCall → Type 0
+Chain c [] = Unit {0}
+Chain c (k ∷ ks) = Link c k ks × Chain c ks
 
 -- ---- the invariant
 
@@ -58,7 +54,9 @@ pub record Holds (s : State) (ram : List ℕ) (gs : List Segment) (ks : List Ope
   pub other : (k : ℕ) → k < mapBytes (s .config) * perByte → (heapBlock (s .config) ≤ k → safeBlock (s .config) ≤ k)
       → codeOf (s .config .bot) ram k ≡ setUpCode (s .config) k
   pub frames : slice (s .config .safe .0) (s .safepointer .0) ram ≡ framesOf ks
-  pub chain : Chain (s .config) (s .domain) (s .bound) ks
+  pub current : s .domain ≡ domainBy ks
+  pub bound : s .bound ≡ boundBy ks
+  pub chain : Chain (s .config) ks
 
 abbrev pub HoldsAfter : History → Type 0
 HoldsAfter h = Holds (stateOf h) (ramOf h) (ledger h) (openCalls h)
@@ -69,7 +67,7 @@ Elsewhere c ram ram′ = (x : ℕ) → (InMap c x ⊎ InSafeStack c x → ⊥) �
 
 -- what o gave keeps what holds
 abbrev pub After : State → List Segment → List OpenCall → Operation → Given → Type 0
-After s gs ks o g = Holds (g .state) (g .ram) (booked (s .domain) o (g .answer) gs) (noted s o (g .answer) ks)
+After s gs ks o g = Holds (g .state) (g .ram) (booked (domainBy ks) o (g .answer) gs) (noted (s .config) o (g .answer) ks)
 
 -- and changed RAM in the map and the safe stack area alone
 abbrev pub Kept : State → List Segment → List OpenCall → Operation → List ℕ → Given → Type 0
@@ -141,6 +139,8 @@ module _ (s : State) (ram : List ℕ) (gs : List Segment) (ks : List OpenCall) (
               (omega (arith, h .size, h .good .safepointer≤top, g .top≤ram)) (omega (arith, n, h .size, h .good .safepointer≤top, g .top≤ram))
               (λ x a b. setCodes-outside (c .bot) ram k vs (mapBytes c) x (omega arith) (λ r. omega (arith, g .map≤heap, g .heap≤safe)))
               ∙ h .frames;
+          current = h .current;
+          bound = h .bound;
           chain = h .chain;
         },
         λ x out.

@@ -2,7 +2,7 @@
 -- Assumes nothing.
 use Prim.Native.Nat.{ℕ}
 use mathlib.Core.Path.{_≡_, refl, sym, _∙_}
-use mathlib.Core.Logic.{⊎-elim, _≢_}
+use mathlib.Core.Logic.{inl, ⊎-elim, _≢_}
 use native.Mathlib.Omega.{arith}
 use lib.ListN.{length}
 use borrow.Author.Tests.{eq-eqb, ne-eqb, lt-leb, lt-ltb, le-ltb}
@@ -17,19 +17,15 @@ use Rattle.laws.proofs.Rows.{give-answer}
 use Rattle.laws.proofs.Good.{GoodConfig, goodState-true, bot<heap}
 use Rattle.promises.specs.Operations.{Operation, store, free}
 use Rattle.promises.specs.History.{History, _then_, stateOf, ramOf, domainOf, byteAt, answerTo, Assumed, Stretch, none, next}
+use Rattle.promises.specs.Calls.{openCalls}
 use Rattle.promises.specs.Ledger.{Segment, ledger, InSegment}
-use Rattle.promises.specs.Promise.{_∈_}
+use Rattle.promises.specs.Promise.{_∈_, GivesUp, StoredByHolder}
 use Rattle.promises.specs.Incident.{NoIncident}
 use Rattle.promises.proofs.Row.{row-in-heap}
 use Rattle.promises.proofs.Holds.{HoldsAfter}
-use Rattle.promises.proofs.Steps.{always}
+use Rattle.promises.proofs.Steps.{always, earlier}
 use Rattle.promises.proofs.Change.{segment-step, segment-place, segment-owner, unchanged}
 use Rattle.promises.proofs.Keeping.{segment-stays, freed-own}
-
--- a history is as assumed at each moment of it
-earlier : (P : History → Operation → Type 0) (from : History) {h : History} → Assumed h → Stretch P from h → Assumed from
-earlier P from a none = a
-earlier P from a (next before p) = earlier P from (a .0) before
 
 -- who frees is no trusted domain, which has no segment
 freed-by-module : (h : History) → Assumed h → (a : RamByte) (n : ℕ) → answerTo h (free a) ≡ Done n → domainOf h ≢ trusted
@@ -45,7 +41,7 @@ module _ (h : History) (i : HoldsAfter h) (g : Segment) (m : g ∈ ledger h)
   refused-store x q b =
       let c : Config = stateOf h .config in
       let good : GoodConfig c = i .good .config in
-      let (from, to) = segment-place h i g m (ramByte x) q in
+      let (from, to) = segment-place (stateOf h) (ramOf h) (ledger h) (openCalls h) i g m (ramByte x) q in
       give-answer (storeAnswer (stateOf h) (ramOf h) (ramByte x)) (stateOf h) (ramOf h) (stateOf h) _
       ∙ (rw (
         eq-eqb (length (ramOf h)) ramBytes (i .size),
@@ -54,14 +50,29 @@ module _ (h : History) (i : HoldsAfter h) (g : Segment) (m : g ∈ ledger h)
         ne-eqb (domainOf h) trusted module-current,
         le-ltb x (c .bot .0) (omega (arith, bot<heap good)),
         lt-ltb x (c .top .0) (omega (arith, good .safe≤top)),
-        segment-owner h i g m (ramByte x) q,
+        segment-owner (stateOf h) (ramOf h) (ledger h) (openCalls h) i g m (ramByte x) q,
         ne-eqb (g .owner) (domainOf h) (λ e. other (sym e)),
       ))
 
   same-bytes : (x : ℕ) → InSegment g x → (o : Operation) → byteAt (h then o) x ≡ byteAt h x
   same-bytes x q o =
-      unchanged _ _ (segment-step h i g m x q o)
+      unchanged _ _ (segment-step h i g o (inl m) x q)
       (⊎-elim (λ w. other (w .3)) (λ w. module-current (w .3)))
+
+-- ---- for any number of operations
+
+held-on : (h : History) (g : Segment) → g ∈ ledger h → (P : History → Operation → Type 0) → ((k : History) (o : Operation) → P k o → GivesUp g k o → ⊥)
+    → {l : History} → Assumed l → Stretch P h l → g ∈ ledger l
+held-on h g m P keeps a none = m
+held-on h g m P keeps a (next {h = k} {o = o} before p) =
+    segment-stays k (always k (a .0) .1) g (held-on h g m P keeps (a .0) before) o (keeps k o p)
+
+same-on : (h : History) (g : Segment) → g ∈ ledger h → (x : ℕ) → InSegment g x → {l : History} → Assumed l
+    → Stretch (λ k o. (GivesUp g k o → ⊥) × (StoredByHolder g x k o → ⊥)) h l → byteAt l x ≡ byteAt h x
+same-on h g m x q a none = refl
+same-on h g m x q a (next {h = k} {o = o} before (keeps, never)) =
+    unchanged _ _ (segment-step k (always k (a .0) .1) g o (inl (held-on h g m _ (λ k o p. p .0) (a .0) before)) x q) never
+    ∙ same-on h g m x q (a .0) before
 
 pub incident : NoIncident
 incident h a d g p current =
@@ -69,19 +80,11 @@ incident h a d g p current =
     let other : domainOf h ≢ g .owner = λ e. p .another (sym e ∙ current) in
     let once : Assumed (p .once) = earlier _ _ a (p .since) .0 in
     let module-current : domainOf h ≢ trusted =
-    λ e. freed-by-module (p .once) once (p .address) (p .count) (p .freed) (p .byIt ∙ sym current ∙ e) in
+    λ e. freed-by-module (p .once) once (ramByte (p .had .address)) (p .had .blocks) (p .freed) (p .byIt ∙ sym current ∙ e) in
     record {
       refused = refused-store h i g (p .has) other module-current;
       same = same-bytes h i g (p .has) other module-current;
-      stays = segment-stays h i g (p .has) other;
-      forLong = λ l b. for-long h g (p .has) b;
+      stays = λ o. segment-stays h i g (p .has) o (λ gives. other (gives .0));
+      held = λ l b. held-on h g (p .has) _ (λ k o keeps. keeps) b;
+      forLong = λ l b x q along. (held-on h g (p .has) _ (λ k o keeps. keeps .0) b along, same-on h g (p .has) x q b along);
     }
-  where
-    for-long : (h : History) (g : Segment) → g ∈ ledger h → {l : History} → Assumed l
-        → Stretch (λ k o. (domainOf k ≢ g .owner) × (domainOf k ≢ trusted)) h l
-        → (g ∈ ledger l) × ((x : ℕ) → InSegment g x → byteAt l x ≡ byteAt h x)
-    for-long h g m b none = (m, λ x q. refl)
-    for-long h g m b (next {h = k} {o = o} before (n, t)) =
-        let (held, same) = for-long h g m (b .0) before in
-        let i = always k (b .0) .1 in
-        (segment-stays k i g held n o, λ x q. same-bytes k i g held n t x q o ∙ same x q)

@@ -1,14 +1,16 @@
--- The sample's history is as assumed, so what is promised is promised of something; and its ghosts, as the checker computes them.
+-- The sample's history and a trusted store after it are as assumed; and the incident's. So what is promised is promised of something. The
+-- checker computes their ghosts.
 -- Assumes nothing.
 use Prim.Native.Nat.{ℕ, zero, suc, _<_}
-use mathlib.Core.Path.{_≡_, refl, sym, ap, _∙_}
+use mathlib.Core.Path.{_≡_, refl, sym, ap, _∙_, subst}
+use mathlib.Core.Logic.{_≢_, _⊎_, inl, inr}
 use mathlib.Core.Bool.{Bool, true, false, true≢false}
 use mathlib.Core.List.{[], _∷_}
 use native.Mathlib.Omega.{arith}
 use lib.ListN.{getD, set, replicate, take}
-use Rattle.rules.specs.declared.RamByte.{RamByte}
-use Rattle.rules.specs.declared.Answer.the-variants.{Done}
-use Rattle.rules.specs.Memory.{ramBytes, dividedUp, blockBytes, startOf, blockOf, blocksFor, blocks, heapBlock, safeBlock, isMultiple, radix, perByte, mapBytesFor, mapBytes, digit, setDigit, mapByte, mapDigit, codeOf, setCode, setCodes, startCode, laterCode, freeCode, ownerOf, startsSegment, isFree}
+use Rattle.rules.specs.declared.Answer.the-variants.{Done, Refused}
+use Rattle.rules.specs.declared.Refusal.the-variants.{OtherOwner}
+use Rattle.rules.specs.Memory.{ramBytes, dividedUp, blockBytes, startOf, blockOf, blocksFor, blocks, heapBlock, safeBlock, isMultiple, radix, perByte, mapBytesFor, mapBytes, digit, setDigit, mapByte, mapDigit, codeOf, setCode, setCodes, startCode, laterCode, freeCode, ownerOf, startsSegment, isFree, trusted}
 use Rattle.rules.specs.Code.{flashWord, ordered, apartFrom, allApart, tableWords}
 use Rattle.rules.specs.State.{ramByte, goodConfig, goodState}
 use Rattle.rules.specs.SetUp.{setUpCode, setUpCodes, setUpRam, setUpOf}
@@ -16,14 +18,16 @@ use Rattle.rules.specs.Return.{readFrame}
 use Rattle.rules.specs.Malloc.{freeRun, firstRun, lowestRun}
 use Rattle.rules.specs.Free.{continued, segmentBlocks}
 use Rattle.laws.proofs.Parts.{set-bytes}
-use Rattle.promises.specs.Operations.{Operation, store, call, return, malloc, free, change}
-use Rattle.promises.specs.History.{History, setUp, after, domainOf, Bytes, Assumed}
-use Rattle.promises.specs.Ledger.{Segment, entered, replacedAt, ledger}
-use Rattle.promises.specs.Calls.{cross, openCalls}
+use Rattle.promises.specs.Operations.{Operation, store, call, return, malloc, free, change, Fits}
+use Rattle.promises.specs.History.{History, setUp, _then_, after, configOf, domainOf, answerTo, InMap, InSafeStack, Bytes, Assumed, none, next}
+use Rattle.promises.specs.Ledger.{entered, replacedAt, ledger}
+use Rattle.promises.specs.Calls.{openCalls}
 use Rattle.promises.specs.Sample.{sample, sampleTable, zeroRam, sampleOperations}
-use Rattle.promises.specs.Instance.{played, sampleHistory}
+use Rattle.promises.specs.Instance.{historyOf, sampleHistory, storeAfter, incidentOperations, incidentHistory, segment, Ghosts}
 use Rattle.promises.specs.Promise.{Promise}
+use Rattle.promises.specs.Incident.{Incident}
 use Rattle.promises.proofs.Theorem.{promise}
+use Rattle.promises.proofs.Incident.{incident}
 
 zero-bytes : (n : ℕ) → Bytes (replicate n 0)
 zero-bytes zero i = omega arith
@@ -46,68 +50,139 @@ isStore (malloc size) = false
 isStore (free a) = false
 isStore (change a d) = false
 
-no-store : (o : Operation) → isStore o ≡ false → {a : RamByte} {b : ℕ} → o ≡ store a b → ⊥
-no-store o n e = true≢false (sym (ap isStore e) ∙ n)
+-- where a store goes
+abbrev storedTo : Operation → ℕ
+storedTo (store a b) = a .0
+storedTo (call table t site p) = 0
+storedTo return = 0
+storedTo (malloc size) = 0
+storedTo (free a) = 0
+storedTo (change a d) = 0
+
+-- a history goes on as assumed: by what is no store, by a module's store, and by a trusted store outside the map and the safe stack area
+
+no-store : (h : History) → Assumed h → (o : Operation) → Fits o → isStore o ≡ false → Assumed (h then o)
+no-store h a o fits n = (a, fits, λ x w p. true≢false (sym (ap isStore (w .1)) ∙ n))
+
+module-store : (h : History) → Assumed h → (x b : ℕ) → x < 65536 → b < 256 → domainOf h ≢ trusted → Assumed (h then store (ramByte x) b)
+module-store h a x b wide byte other = (a, (wide, byte), λ y w p. other (w .3))
+
+trusted-store : (h : History) → Assumed h → (x b : ℕ) → x < 65536 → b < 256
+    → (InMap (configOf h) x ⊎ InSafeStack (configOf h) x → ⊥) → Assumed (h then store (ramByte x) b)
+trusted-store h a x b wide byte out =
+    (a, (wide, byte), λ y w p. out (subst (λ (z : ℕ). InMap (configOf h) z ⊎ InSafeStack (configOf h) z) (sym (ap storedTo (w .1))) p))
+
+-- ---- the sample, and a trusted store after it
 
 -- the history after the first n operations
 abbrev first : ℕ → History
-first n = played sampleTable (setUp sample zeroRam) (take n sampleOperations)
+first n = historyOf (take n sampleOperations)
 
-abbrev segment : ℕ → ℕ → ℕ → Segment
-segment a n d = record { address = a; blocks = n; owner = d }
+-- who is current at its stores, and what the configuration is
+record Computed : Type 0 where
+  setUpDone : setUpOf sample zeroRam .answer ≡ Done 0
+  at-3 : domainOf (first 2) ≡ 0
+  at-4 : domainOf (first 3) ≡ 0
+  at-6 : domainOf (first 5) ≡ 1
+  at-7 : domainOf (first 6) ≡ 1
+  at-8 : domainOf (first 7) ≡ 1
+  mapEnd : mapBytes sample ≡ 16
 
--- who is current at its stores; the segments and the open calls after the ninth operation, and at the end
-pub record Computed : Type 0 where
-  pub set-up : setUpOf sample zeroRam .answer ≡ Done 0
-  pub at-3 : domainOf (first 2) ≡ 0
-  pub at-4 : domainOf (first 3) ≡ 0
-  pub at-6 : domainOf (first 5) ≡ 1
-  pub at-7 : domainOf (first 6) ≡ 1
-  pub at-8 : domainOf (first 7) ≡ 1
-  pub ninth-ledger : ledger (first 9) ≡ segment 320 3 0 ∷ segment 344 1 1 ∷ []
-  pub ninth-calls : openCalls (first 9)
-      ≡ record { kind = cross (ramByte 3990); site = flashWord 150; domain = 0; bound = ramByte 4000 }
-      ∷ record { kind = cross (ramByte 4000); site = flashWord 50; domain = 7; bound = ramByte 4095 }
-      ∷ []
-  pub end-ledger : ledger sampleHistory ≡ segment 320 3 0 ∷ []
-  pub end-calls : openCalls sampleHistory ≡ []
+computed : Computed
+unfolding after configOf ledger openCalls entered replacedAt dividedUp blockBytes blockOf blocksFor blocks heapBlock safeBlock isMultiple radix perByte mapBytesFor mapBytes digit setDigit mapByte mapDigit codeOf setCode setCodes startCode laterCode freeCode ownerOf startsSegment ordered apartFrom allApart goodConfig goodState setUpCode setUpCodes setUpRam startOf isFree readFrame freeRun firstRun lowestRun continued segmentBlocks
+computed = record { setUpDone = refl; at-3 = refl; at-4 = refl; at-6 = refl; at-7 = refl; at-8 = refl; mapEnd = refl }
 
-pub computed : Computed
-unfolding after ledger openCalls entered replacedAt dividedUp blockBytes blockOf blocksFor blocks heapBlock safeBlock isMultiple radix perByte mapBytesFor mapBytes digit setDigit mapByte mapDigit codeOf setCode setCodes startCode laterCode freeCode ownerOf startsSegment ordered apartFrom allApart goodConfig goodState setUpCode setUpCodes setUpRam startOf isFree readFrame freeRun firstRun lowestRun continued segmentBlocks
-computed =
-    record {
-      set-up = refl;
-      at-3 = refl;
-      at-4 = refl;
-      at-6 = refl;
-      at-7 = refl;
-      at-8 = refl;
-      ninth-ledger = refl;
-      ninth-calls = refl;
-      end-ledger = refl;
-      end-calls = refl;
-    }
+pub ghosts : Ghosts
+unfolding after configOf ledger openCalls entered replacedAt dividedUp blockBytes blockOf blocksFor blocks heapBlock safeBlock isMultiple radix perByte mapBytesFor mapBytes digit setDigit mapByte mapDigit codeOf setCode setCodes startCode laterCode freeCode ownerOf startsSegment ordered apartFrom allApart goodConfig goodState setUpCode setUpCodes setUpRam startOf isFree readFrame freeRun firstRun lowestRun continued segmentBlocks
+ghosts = record { ninthLedger = refl; ninthCalls = refl; endLedger = refl; endCalls = refl; trustedStore = (5, refl, refl, refl) }
+
+fresh-assumed : Assumed (setUp sample zeroRam)
+fresh-assumed = (computed .setUpDone, zero-bytes ramBytes)
+
+-- the operands of a call
+call-fits : (t site p : ℕ) → t < 65536 → site < 65536 → p < 65536 → Fits (call sampleTable (flashWord t) (flashWord site) (ramByte p))
+call-fits t site p a b c = (table-words, a, b, c)
 
 pub sample-assumed : Assumed sampleHistory
 sample-assumed =
-    let a₀ : Assumed (first 0) = (computed .set-up, zero-bytes ramBytes) in
-    let a₁ : Assumed (first 1) = (a₀, (table-words, omega arith, omega arith, omega arith), λ x w p. no-store _ refl (w .1)) in
-    let a₂ : Assumed (first 2) = (a₁, omega arith, λ x w p. no-store _ refl (w .1)) in
-    let a₃ : Assumed (first 3) = (a₂, omega arith, λ x w p. omega (arith, computed .at-3, w .3)) in
-    let a₄ : Assumed (first 4) = (a₃, omega arith, λ x w p. omega (arith, computed .at-4, w .3)) in
-    let a₅ : Assumed (first 5) = (a₄, (table-words, omega arith, omega arith, omega arith), λ x w p. no-store _ refl (w .1)) in
-    let a₆ : Assumed (first 6) = (a₅, omega arith, λ x w p. omega (arith, computed .at-6, w .3)) in
-    let a₇ : Assumed (first 7) = (a₆, omega arith, λ x w p. omega (arith, computed .at-7, w .3)) in
-    let a₈ : Assumed (first 8) = (a₇, omega arith, λ x w p. omega (arith, computed .at-8, w .3)) in
-    let a₉ : Assumed (first 9) = (a₈, omega arith, λ x w p. no-store _ refl (w .1)) in
-    let a₁₀ : Assumed (first 10) = (a₉, omega arith, λ x w p. no-store _ refl (w .1)) in
-    let a₁₁ : Assumed (first 11) = (a₁₀, omega arith, λ x w p. no-store _ refl (w .1)) in
-    let a₁₂ : Assumed (first 12) = (a₁₁, tt, λ x w p. no-store _ refl (w .1)) in
-    let a₁₃ : Assumed (first 13) = (a₁₂, omega arith, λ x w p. no-store _ refl (w .1)) in
-    let a₁₄ : Assumed (first 14) = (a₁₃, (table-words, omega arith, omega arith, omega arith), λ x w p. no-store _ refl (w .1)) in
-    let a₁₅ : Assumed (first 15) = (a₁₄, tt, λ x w p. no-store _ refl (w .1)) in
-    let a₁₆ : Assumed (first 16) = (a₁₅, tt, λ x w p. no-store _ refl (w .1)) in
-    (a₁₆, tt, λ x w p. no-store _ refl (w .1))
+    let a₁ : Assumed (first 1) = no-store (first 0) fresh-assumed _ (call-fits 4096 50 4000 (omega arith) (omega arith) (omega arith)) refl in
+    let a₂ : Assumed (first 2) = no-store (first 1) a₁ (malloc 20) (omega arith) refl in
+    let a₃ : Assumed (first 3) = module-store (first 2) a₂ 343 9 (omega arith) (omega arith) (λ e. omega (arith, computed .at-3)) in
+    let a₄ : Assumed (first 4) = module-store (first 3) a₃ 344 9 (omega arith) (omega arith) (λ e. omega (arith, computed .at-4)) in
+    let a₅ : Assumed (first 5) = no-store (first 4) a₄ _ (call-fits 4224 150 3990 (omega arith) (omega arith) (omega arith)) refl in
+    let a₆ : Assumed (first 6) = module-store (first 5) a₅ 320 1 (omega arith) (omega arith) (λ e. omega (arith, computed .at-6)) in
+    let a₇ : Assumed (first 7) = module-store (first 6) a₆ 3991 1 (omega arith) (omega arith) (λ e. omega (arith, computed .at-7)) in
+    let a₈ : Assumed (first 8) = module-store (first 7) a₇ 3990 1 (omega arith) (omega arith) (λ e. omega (arith, computed .at-8)) in
+    let a₉ : Assumed (first 9) = no-store (first 8) a₈ (malloc 8) (omega arith) refl in
+    let a₁₀ : Assumed (first 10) = no-store (first 9) a₉ (change (ramByte 344) 0) (omega arith) refl in
+    let a₁₁ : Assumed (first 11) = no-store (first 10) a₁₀ (free (ramByte 344)) (omega arith) refl in
+    let a₁₂ : Assumed (first 12) = no-store (first 11) a₁₁ return tt refl in
+    let a₁₃ : Assumed (first 13) = no-store (first 12) a₁₂ (free (ramByte 344)) (omega arith) refl in
+    let a₁₄ : Assumed (first 14) = no-store (first 13) a₁₃ _ (call-fits 120 130 0 (omega arith) (omega arith) (omega arith)) refl in
+    let a₁₅ : Assumed (first 15) = no-store (first 14) a₁₄ return tt refl in
+    let a₁₆ : Assumed (first 16) = no-store (first 15) a₁₅ return tt refl in
+    no-store (first 16) a₁₆ return tt refl
 
-pub sample-promise : Promise sampleHistory
-sample-promise = promise sampleHistory sample-assumed
+store-assumed : Assumed storeAfter
+unfolding configOf
+store-assumed =
+    trusted-store sampleHistory sample-assumed 320 5 (omega arith) (omega arith)
+    (λ place. elim place [
+      | inl p ↦ omega (arith, p .1, computed .mapEnd)
+      | inr p ↦ omega (arith, p .0)
+    ])
+
+pub sample-promise : Promise storeAfter
+sample-promise = promise storeAfter store-assumed
+
+-- ---- the incident
+
+-- the history after the first n operations
+abbrev early : ℕ → History
+early n = historyOf (take n incidentOperations)
+
+record IncidentComputed : Type 0 where
+  had : ledger (early 2) ≡ segment 320 1 0 ∷ []
+  by0 : domainOf (early 2) ≡ 0
+  freed : answerTo (early 2) (free (ramByte 320)) ≡ Done 1
+  has : ledger incidentHistory ≡ segment 320 1 1 ∷ []
+  again0 : domainOf incidentHistory ≡ 0
+  wide : blockBytes ≡ 8
+
+incident-computed : IncidentComputed
+unfolding after configOf ledger openCalls entered replacedAt dividedUp blockBytes blockOf blocksFor blocks heapBlock safeBlock isMultiple radix perByte mapBytesFor mapBytes digit setDigit mapByte mapDigit codeOf setCode setCodes startCode laterCode freeCode ownerOf startsSegment ordered apartFrom allApart goodConfig goodState setUpCode setUpCodes setUpRam startOf isFree readFrame freeRun firstRun lowestRun continued segmentBlocks
+incident-computed = record { had = refl; by0 = refl; freed = refl; has = refl; again0 = refl; wide = refl }
+
+incident-assumed : Assumed incidentHistory
+incident-assumed =
+    let a₁ : Assumed (early 1) = no-store (early 0) fresh-assumed _ (call-fits 4096 50 4000 (omega arith) (omega arith) (omega arith)) refl in
+    let a₂ : Assumed (early 2) = no-store (early 1) a₁ (malloc 8) (omega arith) refl in
+    let a₃ : Assumed (early 3) = no-store (early 2) a₂ (free (ramByte 320)) (omega arith) refl in
+    let a₄ : Assumed (early 4) = no-store (early 3) a₃ return tt refl in
+    let a₅ : Assumed (early 5) = no-store (early 4) a₄ _ (call-fits 4224 50 4000 (omega arith) (omega arith) (omega arith)) refl in
+    let a₆ : Assumed (early 6) = no-store (early 5) a₅ (malloc 8) (omega arith) refl in
+    no-store (early 6) a₆ _ (call-fits 4096 250 3990 (omega arith) (omega arith) (omega arith)) refl
+
+pub incident-there : Incident 0 (segment 320 1 1) incidentHistory
+incident-there =
+    record {
+      once = early 2;
+      had = segment 320 1 0;
+      own = rw (incident-computed .had) (inl refl);
+      byIt = incident-computed .by0;
+      freed = incident-computed .freed;
+      since = next (next (next (next none tt) tt) tt) tt;
+      has = rw (incident-computed .has) (inl refl);
+      another = λ e. omega arith;
+      byte = 320;
+      inBoth = (
+        (omega arith, omega (arith, incident-computed .wide)),
+        (omega arith, omega (arith, incident-computed .wide)),
+      );
+    }
+
+-- domain 0 goes on storing to what it freed, and is refused with 5
+pub incident-refused : (b : ℕ) → answerTo incidentHistory (store (ramByte 320) b) ≡ Refused OtherOwner
+incident-refused b =
+    incident incidentHistory incident-assumed 0 (segment 320 1 1) incident-there (incident-computed .again0)
+    .refused 320 (omega arith, omega (arith, incident-computed .wide)) b

@@ -1,28 +1,31 @@
--- A segment is given up by its own domain alone: while another is current, every operation leaves it in the ledger; and a free or a change
+-- A segment is given up by its own domain alone: every operation but its free or change leaves it in the ledger; and a free or a change
 -- that is accepted is of a segment of the domain that asks.
 -- Assumes nothing.
 use Prim.Native.Nat.{ℕ}
-use mathlib.Core.Path.{_≡_, refl, sym, ap, _∙_}
+use mathlib.Core.Path.{_≡_, refl, sym, ap, _∙_, subst}
 use mathlib.Core.Logic.{inl, inr, _≢_}
 use mathlib.Core.Bool.{true}
 use mathlib.Core.List.{List, [], _∷_, _++_}
+use native.Mathlib.Decide.{ℕ-discrete}
 use lib.Dec.{ltb, eqb}
 use borrow.Author.Tests.{eqb-true, not-false, ne-eqb}
 use Rattle.rules.specs.declared.RamByte.{RamByte}
 use Rattle.rules.specs.declared.State.{State}
 use Rattle.rules.specs.declared.Answer.{Answer}
 use Rattle.rules.specs.declared.Answer.the-variants.{Done, Refused}
-use Rattle.rules.specs.Memory.{blockOf, heapBlock, codeOf, ownerOf}
+use Rattle.rules.specs.Memory.{blockOf, blocksFor, heapBlock, codeOf, ownerOf}
 use Rattle.rules.specs.State.{ramByte}
 use Rattle.rules.specs.Store.{ownerAt}
 use Rattle.rules.specs.Free.{isSegment, blocksAt, freeAnswer, changeAnswer}
 use Rattle.laws.proofs.Tests.{byTest}
 use Rattle.laws.proofs.Rows.{passed, give-answer}
+use Rattle.laws.proofs.Blocks.{blocksFor-holds, blocksFor-less}
 use Rattle.promises.specs.Operations.{Operation, store, call, return, malloc, free, change}
 use Rattle.promises.specs.History.{History, _then_, stateOf, ramOf, domainOf, answerTo}
 use Rattle.promises.specs.Ledger.{Segment, entered, replacedAt, struck, madeOver, booked, ledger}
-use Rattle.promises.specs.Calls.{OpenCall, openCalls}
-use Rattle.promises.specs.Promise.{_∈_, OwnSegment}
+use Rattle.promises.specs.Calls.{OpenCall, domainBy, openCalls}
+use Rattle.promises.specs.Promise.{_∈_, OwnSegment, GivenSegment, GivesUp}
+use Rattle.promises.proofs.Row.{replaced-has}
 use Rattle.promises.proofs.Shown.{member-owner}
 use Rattle.promises.proofs.Holds.{Holds, HoldsAfter}
 use Rattle.promises.proofs.Free.{freeRows, changeRows, SegmentAt, segment-at}
@@ -51,25 +54,37 @@ replaced-keeps a put g n (e ∷ es) (inr m) =
 
 -- ---- the operations
 
-module _ (s : State) (ram : List ℕ) (gs : List Segment) (ks : List OpenCall) (i : Holds s ram gs ks) (g : Segment) (m : g ∈ gs)
-    (other : s .domain ≢ g .owner) where
-  -- the segment of which the owner is asked is another one
-  elsewhere : (a : RamByte) → ownerAt s ram a ≡ s .domain → g .address ≢ a .0
-  elsewhere a e q =
-      other
-      (sym e
+module _ (s : State) (ram : List ℕ) (gs : List Segment) (ks : List OpenCall) (i : Holds s ram gs ks) (g : Segment) (m : g ∈ gs) where
+  -- who is the owner where it starts
+  own : (a : RamByte) → ownerAt s ram a ≡ s .domain → g .address ≡ a .0 → s .domain ≡ g .owner
+  own a e q =
+      sym e
       ∙ ap (λ (x : ℕ). ownerOf (codeOf (s .config .bot) ram (blockOf (s .config .bot) (ramByte x)))) (sym q)
-      ∙ member-owner (s .config) ram (heapBlock (s .config)) gs (i .row) (i .heap) g m)
+      ∙ member-owner (s .config) ram (heapBlock (s .config)) gs (i .row) (i .heap) g m
 
-  free-stays : (a : RamByte) (v : ℕ) → freeAnswer s ram a ≡ Done v → g ∈ replacedAt (a .0) struck gs
-  free-stays a v e =
+  free-stays : (a : RamByte) (v : ℕ) → freeAnswer s ram a ≡ Done v → (g .address ≡ a .0 → s .domain ≡ g .owner → ⊥)
+      → g ∈ replacedAt (a .0) struck gs
+  free-stays a v e other =
       let (t, _) = passed (freeRows s ram a) (Done (blocksAt s ram a)) v e in
-      replaced-keeps (a .0) struck g (elsewhere a (eqb-true _ _ (not-false _ (t .1 .1 .1 .0)))) gs m
+      replaced-keeps (a .0) struck g (λ q. other q (own a (eqb-true _ _ (not-false _ (t .1 .1 .1 .0))) q)) gs m
 
-  change-stays : (a : RamByte) (d v : ℕ) → changeAnswer s ram a d ≡ Done v → g ∈ replacedAt (a .0) (madeOver d) gs
-  change-stays a d v e =
+  -- made over to the domain that has it, it is what it was
+  change-stays : (a : RamByte) (d v : ℕ) → changeAnswer s ram a d ≡ Done v → (g .address ≡ a .0 → s .domain ≡ g .owner → d ≢ g .owner → ⊥)
+      → g ∈ replacedAt (a .0) (madeOver d) gs
+  change-stays a d v e other =
       let (t, _) = passed (changeRows s ram a d) (Done (blocksAt s ram a)) v e in
-      replaced-keeps (a .0) (madeOver d) g (elsewhere a (eqb-true _ _ (not-false _ (t .1 .1 .1 .0)))) gs m
+      elim (ℕ-discrete (g .address) (a .0)) [
+        | no n ↦ replaced-keeps (a .0) (madeOver d) g n gs m
+        | yes q ↦
+            elim (ℕ-discrete d (g .owner)) [
+              | no n ↦ absurd (other q (own a (eqb-true _ _ (not-false _ (t .1 .1 .1 .0))) q) n)
+              | yes w ↦
+                  subst (λ (x : ℕ). g ∈ replacedAt x (madeOver d) gs) q
+                  (replaced-has (s .config) (madeOver d) g g
+                  (inl (λ j. record { address = g .address; blocks = g .blocks; owner = sym w j }))
+                  (heapBlock (s .config)) gs (i .row) m)
+            ]
+      ]
 
 -- a refused operation leaves the ledger
 by-answer : (d : ℕ) (o : Operation) (gs : List Segment) (g : Segment) → g ∈ gs → (x : Answer)
@@ -78,19 +93,41 @@ by-answer d o gs g m (Refused r) done = m
 by-answer d o gs g m (Done v) done = done v refl
 
 pub segment-stays : (h : History) → HoldsAfter h
-    → (g : Segment) → g ∈ ledger h → domainOf h ≢ g .owner → (o : Operation) → g ∈ ledger (h then o)
+    → (g : Segment) → g ∈ ledger h → (o : Operation) → (GivesUp g h o → ⊥) → g ∈ ledger (h then o)
 unfolding ledger
-segment-stays h i g m n o = by-answer (domainOf h) o (ledger h) g m (answerTo h o) (done o)
+segment-stays h i g m o keeps = by-answer (domainBy (openCalls h)) o (ledger h) g m (answerTo h o) (done o keeps)
   where
-    done : (o : Operation) (v : ℕ) → answerTo h o ≡ Done v → g ∈ booked (domainOf h) o (Done v) (ledger h)
-    done (store a b) v e = m
-    done (call table t site p) v e = m
-    done return v e = m
-    done (malloc size) v e = entered-keeps _ g (ledger h) m
-    done (free a) v e =
-        free-stays (stateOf h) (ramOf h) (ledger h) (openCalls h) i g m n a v (sym (give-answer _ (stateOf h) (ramOf h) (stateOf h) _) ∙ e)
-    done (change a d) v e =
-        change-stays (stateOf h) (ramOf h) (ledger h) (openCalls h) i g m n a d v (sym (give-answer _ (stateOf h) (ramOf h) (stateOf h) _) ∙ e)
+    done : (o : Operation) → (GivesUp g h o → ⊥) → (v : ℕ) → answerTo h o ≡ Done v → g ∈ booked (domainBy (openCalls h)) o (Done v) (ledger h)
+    done (store a b) keeps v e = m
+    done (call table t site p) keeps v e = m
+    done return keeps v e = m
+    done (malloc size) keeps v e = entered-keeps _ g (ledger h) m
+    done (free a) keeps v e =
+        free-stays (stateOf h) (ramOf h) (ledger h) (openCalls h) i g m a v (sym (give-answer _ (stateOf h) (ramOf h) (stateOf h) _) ∙ e)
+        (λ q own. keeps (own, inl (ap (λ (x : ℕ). free (ramByte x)) (sym q))))
+    done (change a d) keeps v e =
+        change-stays (stateOf h) (ramOf h) (ledger h) (openCalls h) i g m a d v (sym (give-answer _ (stateOf h) (ramOf h) (stateOf h) _) ∙ e)
+        (λ q own n. keeps (own, inr (d, n, ap (λ (x : ℕ). change (ramByte x) d) (sym q))))
+
+-- ---- what is given is as large as was asked
+
+entered-has : (g : Segment) (gs : List Segment) → g ∈ entered g gs
+unfolding entered
+entered-has g [] = inl refl
+entered-has g (e ∷ es) = byTest (ltb (g .address) (e .address)) (λ t. rw t (inl refl)) (λ t. rw t (inr (entered-has g es)))
+
+pub given-segment : (h : History) → HoldsAfter h → (size v : ℕ) → answerTo h (malloc size) ≡ Done v → GivenSegment h size v
+unfolding ledger
+given-segment h i size v e =
+    let d : ℕ = domainBy (openCalls h) in
+    let g : Segment = record { address = v; blocks = blocksFor size; owner = d } in (
+      g,
+      subst (λ (x : Answer). g ∈ booked d (malloc size) x (ledger h)) (sym e) (entered-has g (ledger h)),
+      refl,
+      sym (i .current),
+      blocksFor-holds size,
+      blocksFor-less size,
+    )
 
 -- ---- what is given up is the domain's own
 

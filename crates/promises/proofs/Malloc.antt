@@ -27,8 +27,8 @@ use Rattle.laws.proofs.Blocks.{block-start, blocksFor-pos}
 use Rattle.laws.proofs.Codes.{length-segmentCodes, segmentCodes-below}
 use Rattle.laws.proofs.Search.{found, found-in-heap, free-run-at, free-block}
 use Rattle.promises.specs.Operations.{malloc}
-use Rattle.promises.specs.Ledger.{Segment, entered, firstBlock, InHeap}
-use Rattle.promises.specs.Calls.{OpenCall}
+use Rattle.promises.specs.Ledger.{Segment, entered, firstBlock, HeapSegment}
+use Rattle.promises.specs.Calls.{OpenCall, domainBy}
 use Rattle.promises.proofs.Row.{enter-row, code-segment, code-past}
 use Rattle.promises.proofs.Holds.{Holds, Elsewhere, Kept, write-codes}
 
@@ -60,7 +60,7 @@ module _ (s : State) (ram : List ℕ) (gs : List Segment) (ks : List OpenCall) (
       let (l, run, _) = found c ram n b e in
       let u : b .0 + n ≤ safeBlock c = found-in-heap c ram n b e p in
       let len : length vs ≡ n = length-segmentCodes (s .domain) n in
-      let in-heap : InHeap c g =
+      let in-heap : HeapSegment c g =
       record { atBlock = ap (startOf (c .bot)) q; fromHeap = omega arith; toSafe = omega arith; some = p; byModule = m } in
       let (row, codes) =
       enter-row c (heapBlock c) g gs in-heap (omega arith) (h .row)
@@ -78,9 +78,9 @@ module _ (s : State) (ram : List ℕ) (gs : List Segment) (ks : List OpenCall) (
       → Holds s (setCodes (s .config .bot) ram (b .0) (segmentCodes (s .domain) n))
       (entered (record { address = startOf (s .config .bot) (b .0); blocks = n; owner = s .domain }) gs) ks
       × Elsewhere (s .config) ram (setCodes (s .config .bot) ram (b .0) (segmentCodes (s .domain) n))
-      → Holds s (taken s ram n (lowestRun (s .config) ram n)) (entered (record { address = v; blocks = n; owner = s .domain }) gs) ks
+      → Holds s (taken s ram n (lowestRun (s .config) ram n)) (entered (record { address = v; blocks = n; owner = domainBy ks }) gs) ks
       × Elsewhere (s .config) ram (taken s ram n (lowestRun (s .config) ram n))
-  answered n v b q w k = rw (q, ← w) k
+  answered n v b q w k = rw (q, ← w, ← (h .current)) k
 
   pub malloc-holds : (size : ℕ)
       → Kept s gs ks (malloc size) ram (mallocOf s ram size)

@@ -1,6 +1,6 @@
 -- A return finds the frame of the newest open call, gives what that call wants, and keeps the invariant.
 -- Assumes nothing.
-use Prim.Native.Nat.{ℕ, _+_, _-_, _<_}
+use Prim.Native.Nat.{ℕ, _+_, _-_, _≤_, _<_}
 use mathlib.Core.Path.{_≡_, refl, sym, ap, _∙_}
 use mathlib.Core.Bool.{Bool, false, not}
 use mathlib.Core.List.{List, [], _∷_}
@@ -25,8 +25,8 @@ use Rattle.laws.proofs.Frames.{IsFrame, readFrame-back}
 use Rattle.laws.proofs.Good.{goodState-true}
 use Rattle.promises.specs.Operations.{return}
 use Rattle.promises.specs.Ledger.{Segment}
-use Rattle.promises.specs.Calls.{Kind, local, cross, OpenCall, frameFor, framesOf, Returns}
-use Rattle.promises.proofs.Holds.{LeftBy, Link, Holds, Kept}
+use Rattle.promises.specs.Calls.{Kind, local, cross, OpenCall, domainIn, boundIn, frameFor, framesOf, Returns}
+use Rattle.promises.proofs.Holds.{Link, Holds, Kept}
 
 -- the table of return
 abbrev frameRows : State → List ℕ → List (Bool × Refusal)
@@ -41,22 +41,22 @@ frameRows s ram =
 
 frame-some : (kind : Kind) (k : OpenCall) → 0 < length (frameBytes (frameFor kind k))
 frame-some local k = omega arith
-frame-some (cross p) k = omega arith
+frame-some (cross f p) k = omega arith
 
 site-of : (kind : Kind) (k : OpenCall) → siteOf (frameFor kind k) ≡ k .site .0
 site-of local k = refl
-site-of (cross p) k = refl
+site-of (cross f p) k = refl
 
-module _ (s : State) (k : OpenCall) (link : Link (s .config) (s .domain) (s .bound) k) where
+module _ (s : State) (k : OpenCall) (ks : List OpenCall) (link : Link (s .config) k ks) where
   is-frame : (kind : Kind) → IsFrame (frameFor kind k)
   is-frame local = tt
-  is-frame (cross p) = link .domain≤trusted
+  is-frame (cross f p) = link .domain≤trusted
 
-  sound : (kind : Kind) → LeftBy kind k (s .domain) (s .bound) → damaged s (frameFor kind k) ≡ false
-  sound local left = rw (left .0, link .site)
-  sound (cross p) left =
+  sound : (kind : Kind) → s .domain ≡ domainIn kind (k .domain) → s .bound .0 ≤ k .bound .0 → damaged s (frameFor kind k) ≡ false
+  sound local current bound = rw (current, link .site)
+  sound (cross f p) current bound =
       rw (link .site)
-      (or-false _ _ (le-ltb (k .bound .0) (s .bound .0) (link .bound≤)) (lt-leb ramBytes (k .bound .0) (link .bound<ram)))
+      (or-false _ _ (le-ltb (k .bound .0) (s .bound .0) bound) (lt-leb ramBytes (k .bound .0) (link .bound<ram)))
 
   -- the state as it was before the call, the frame gone
   abbrev before : Kind → State
@@ -68,10 +68,10 @@ module _ (s : State) (k : OpenCall) (link : Link (s .config) (s .domain) (s .bou
         safepointer = ramByte (s .safepointer .0 - length (frameBytes (frameFor kind k)));
       }
 
-  back : (kind : Kind) → LeftBy kind k (s .domain) (s .bound) → returned s (frameFor kind k) ≡ before kind
-  back local left =
-      λ i. record { config = s .config; domain = left .0 i; bound = left .1 i; safepointer = ramByte (s .safepointer .0 - 3) }
-  back (cross p) left = refl
+  back : (kind : Kind) → s .domain ≡ domainIn kind (k .domain) → s .bound ≡ boundIn kind (k .bound) → returned s (frameFor kind k) ≡ before kind
+  back local current bound =
+      λ i. record { config = s .config; domain = current i; bound = bound i; safepointer = ramByte (s .safepointer .0 - 3) }
+  back (cross f p) current bound = refl
 
 -- ---- no call is open
 
@@ -93,6 +93,10 @@ module _ (s : State) (ram : List ℕ) (gs : List Segment) (k : OpenCall) (ks : L
   abbrev bytes : List ℕ
   bytes = frameBytes (frameFor (k .kind) k)
 
+  -- the bound that comes back is no lower
+  bound≤ : s .bound .0 ≤ k .bound .0
+  bound≤ = rw (h .bound) (h .chain .0 .bound≤)
+
   held : s .safepointer .0 - s .config .safe .0 ≡ length (framesOf ks) + length bytes
   unfolding framesOf
   held =
@@ -101,7 +105,7 @@ module _ (s : State) (ram : List ℕ) (gs : List Segment) (k : OpenCall) (ks : L
 
   top-frame : topFrame s ram ≡ frameFor (k .kind) k
   unfolding framesOf
-  top-frame = ap readFrame (h .frames) ∙ readFrame-back (frameFor (k .kind) k) (is-frame s k (h .chain .0) (k .kind)) (framesOf ks)
+  top-frame = ap readFrame (h .frames) ∙ readFrame-back (frameFor (k .kind) k) (is-frame s k ks (h .chain .0) (k .kind)) (framesOf ks)
 
   pub returns-site : returnAnswer s ram ≡ Done (k .site .0)
   returns-site =
@@ -111,16 +115,16 @@ module _ (s : State) (ram : List ℕ) (gs : List Segment) (k : OpenCall) (ks : L
           (rw (goodState-true s (h .good))),
           (
             ne-eqb (s .safepointer .0) (s .config .safe .0) (λ e. omega (arith, held, frame-some (k .kind) k)),
-            (ap (damaged s) top-frame ∙ sound s k (h .chain .0) (k .kind) (h .chain .0 .left), tt),
+            (ap (damaged s) top-frame ∙ sound s k ks (h .chain .0) (k .kind) (h .current) bound≤, tt),
           ),
         ),
       )
       ∙ ap Done (ap siteOf top-frame ∙ site-of (k .kind) k)
 
-  pub returns-state : returned s (topFrame s ram) ≡ before s k (h .chain .0) (k .kind)
-  returns-state = ap (returned s) top-frame ∙ back s k (h .chain .0) (k .kind) (h .chain .0 .left)
+  pub returns-state : returned s (topFrame s ram) ≡ before s k ks (h .chain .0) (k .kind)
+  returns-state = ap (returned s) top-frame ∙ back s k ks (h .chain .0) (k .kind) (h .current) (h .bound)
 
-  pop-keeps : Holds (before s k (h .chain .0) (k .kind)) ram gs ks
+  pop-keeps : Holds (before s k ks (h .chain .0) (k .kind)) ram gs ks
   unfolding framesOf
   pop-keeps =
       let c : Config = s .config in
@@ -131,7 +135,7 @@ module _ (s : State) (ram : List ℕ) (gs : List Segment) (k : OpenCall) (ks : L
             record {
               config = h .good .config;
               domain≤trusted = h .chain .0 .domain≤trusted;
-              top≤bound = omega (arith, h .good .top≤bound, h .chain .0 .bound≤);
+              top≤bound = omega (arith, h .good .top≤bound, bound≤);
               bound<ram = h .chain .0 .bound<ram;
               safe≤safepointer = omega (arith, held, h .good .safe≤safepointer, frame-some (k .kind) k);
               safepointer≤top = omega (arith, h .good .safepointer≤top);
@@ -146,6 +150,8 @@ module _ (s : State) (ram : List ℕ) (gs : List Segment) (k : OpenCall) (ks : L
             ∙ sym (take-take (s .safepointer .0 - n - c .safe .0) (s .safepointer .0 - c .safe .0) (drop (c .safe .0) ram) (omega arith))
             ∙ ap (take (s .safepointer .0 - n - c .safe .0)) (sym (slice-as (c .safe .0) (s .safepointer .0) ram) ∙ h .frames)
             ∙ take-at (framesOf ks) bytes (s .safepointer .0 - n - c .safe .0) (sym q);
+        current = h .chain .0 .domain;
+        bound = h .chain .0 .bound;
         chain = h .chain .1;
       }
 

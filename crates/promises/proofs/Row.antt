@@ -16,20 +16,20 @@ use Rattle.rules.specs.Memory.{startCode, laterCode, freeCode, startsSegment, s
 use Rattle.laws.proofs.Tests.{byTest, both, and-true}
 use Rattle.laws.proofs.Blocks.{start-mono, start-lt, blockBytes-pos}
 use Rattle.laws.proofs.Codes.{start≢free, start≢later, later≢free, starts-later, starts-free, getD-segmentCodes-first, getD-segmentCodes-later}
-use Rattle.promises.specs.Ledger.{Segment, entered, replacedAt, struck, madeOver, firstBlock, endBlock, InHeap, Apart, codeBy}
+use Rattle.promises.specs.Ledger.{Segment, entered, replacedAt, struck, madeOver, firstBlock, endBlock, HeapSegment, Apart, codeBy}
 use Rattle.promises.specs.Promise.{_∈_}
 
 module _ (c : Config) where
   -- each in the heap, and behind block k and those before it
   abbrev pub Row : ℕ → List Segment → Type 0
   Row k [] = Unit {0}
-  Row k (g ∷ gs) = InHeap c g × (k ≤ firstBlock c g) × Row (endBlock c g) gs
+  Row k (g ∷ gs) = HeapSegment c g × (k ≤ firstBlock c g) × Row (endBlock c g) gs
 
   pub row-apart : (k : ℕ) (gs : List Segment) → Row k gs → Apart c k gs
   row-apart k [] r = tt
   row-apart k (g ∷ gs) r = (r .1, row-apart (endBlock c g) gs (r .2))
 
-  pub row-in-heap : (k : ℕ) (gs : List Segment) → Row k gs → (g : Segment) → g ∈ gs → InHeap c g
+  pub row-in-heap : (k : ℕ) (gs : List Segment) → Row k gs → (g : Segment) → g ∈ gs → HeapSegment c g
   row-in-heap k [] r g m = absurd m
   row-in-heap k (f ∷ fs) r g (inl e) = rw e (r .0)
   row-in-heap k (f ∷ fs) r g (inr m) = row-in-heap (endBlock c f) fs (r .2) g m
@@ -117,12 +117,12 @@ module _ (c : Config) where
 
   -- ---- blocks and addresses of segments
 
-  address-lt : (g f : Segment) → InHeap c g → InHeap c f → g .address < f .address → firstBlock c g < firstBlock c f
+  address-lt : (g f : Segment) → HeapSegment c g → HeapSegment c f → g .address < f .address → firstBlock c g < firstBlock c f
   address-lt g f hg hf l =
       byTest (ltb (firstBlock c g) (firstBlock c f)) (λ t. ltb-true _ _ t)
       (λ t. absurd (omega (arith, hg .atBlock, hf .atBlock, start-mono (c .bot) (ltb-false (firstBlock c g) (firstBlock c f) t))))
 
-  address-le : (g f : Segment) → InHeap c g → InHeap c f → g .address ≤ f .address → firstBlock c g ≤ firstBlock c f
+  address-le : (g f : Segment) → HeapSegment c g → HeapSegment c f → g .address ≤ f .address → firstBlock c g ≤ firstBlock c f
   address-le g f hg hf l =
       byTest (ltb (firstBlock c f) (firstBlock c g))
       (λ t. absurd (omega (arith, hg .atBlock, hf .atBlock, blockBytes-pos, start-lt (c .bot) (ltb-true (firstBlock c f) (firstBlock c g) t))))
@@ -130,7 +130,7 @@ module _ (c : Config) where
 
   -- ---- entering
 
-  pub enter-row : (lo : ℕ) (g : Segment) (gs : List Segment) → InHeap c g → lo ≤ firstBlock c g → Row lo gs
+  pub enter-row : (lo : ℕ) (g : Segment) (gs : List Segment) → HeapSegment c g → lo ≤ firstBlock c g → Row lo gs
       → ((k : ℕ) → firstBlock c g ≤ k → k < endBlock c g → codeBy c gs k ≡ freeCode)
       → Row lo (entered g gs) × ((k : ℕ) → codeBy c (entered g gs) k ≡ codeBy c (g ∷ gs) k)
   unfolding entered
@@ -175,6 +175,17 @@ module _ (c : Config) where
   member-behind lo [] r g m = absurd m
   member-behind lo (f ∷ fs) r g (inl e) = rw e (r .1)
   member-behind lo (f ∷ fs) r g (inr m) = omega (arith, r .1, member-behind (endBlock c f) fs (r .2) g m)
+
+  -- two that have a block in common are one
+  pub member-one : (lo : ℕ) (gs : List Segment) → Row lo gs → (f g : Segment) → f ∈ gs → g ∈ gs → (k : ℕ)
+      → firstBlock c f ≤ k → k < endBlock c f → firstBlock c g ≤ k → k < endBlock c g → f ≡ g
+  member-one lo [] r f g m n k fl fu gl gu = absurd m
+  member-one lo (e ∷ es) r f g (inl p) (inl q) k fl fu gl gu = p ∙ sym q
+  member-one lo (e ∷ es) r f g (inl p) (inr n) k fl fu gl gu =
+      absurd (omega (arith, ap (endBlock c) p, member-behind (endBlock c e) es (r .2) g n))
+  member-one lo (e ∷ es) r f g (inr m) (inl q) k fl fu gl gu =
+      absurd (omega (arith, ap (endBlock c) q, member-behind (endBlock c e) es (r .2) f m))
+  member-one lo (e ∷ es) r f g (inr m) (inr n) k fl fu gl gu = member-one (endBlock c e) es (r .2) f g m n k fl fu gl gu
 
   pub member-code : (lo : ℕ) (gs : List Segment) → Row lo gs → (g : Segment) → g ∈ gs → (k : ℕ) → firstBlock c g ≤ k → k < endBlock c g
       → codeBy c gs k ≡ codeBy c (g ∷ []) k
@@ -229,9 +240,9 @@ module _ (c : Config) where
   -- ---- putting something in a segment's place
 
   -- a segment behind f has another address
-  address-behind : (f : Segment) (fs : List Segment) → InHeap c f → Row (endBlock c f) fs → (g : Segment) → g ∈ fs → eqb (f .address) (g .address) ≡ false
+  address-behind : (f : Segment) (fs : List Segment) → HeapSegment c f → Row (endBlock c f) fs → (g : Segment) → g ∈ fs → eqb (f .address) (g .address) ≡ false
   address-behind f fs hf r g m =
-      let hg : InHeap c g = row-in-heap (endBlock c f) fs r g m in
+      let hg : HeapSegment c g = row-in-heap (endBlock c f) fs r g m in
       let b : endBlock c f ≤ firstBlock c g = member-behind (endBlock c f) fs r g m in
       let l : firstBlock c f < firstBlock c g = omega (arith, hf .some) in
       ne-eqb (f .address) (g .address) (λ e. omega (arith, hf .atBlock, hg .atBlock, blockBytes-pos, start-lt (c .bot) l))
@@ -243,7 +254,7 @@ module _ (c : Config) where
         → codeBy c (new ++ fs) k ≡ codeBy c new k
     pub outside : (fs : List Segment) (k : ℕ) → (firstBlock c g ≤ k → endBlock c g ≤ k) → codeBy c (new ++ fs) k ≡ codeBy c fs k
 
-  pub struck-place : (g : Segment) → InHeap c g → InPlaceOf g (struck g)
+  pub struck-place : (g : Segment) → HeapSegment c g → InPlaceOf g (struck g)
   struck-place g h =
       record {
         fits = λ lo fs l r. row-lower lo (endBlock c g) fs (omega arith) r;
@@ -251,16 +262,29 @@ module _ (c : Config) where
         outside = λ fs k out. refl;
       }
 
-  pub over-place : (d : ℕ) → d < trusted → (g : Segment) → InHeap c g → InPlaceOf g (madeOver d g)
+  pub over-place : (d : ℕ) → d < trusted → (g : Segment) → HeapSegment c g → InPlaceOf g (madeOver d g)
   over-place d m g h =
       let f : Segment = record { address = g .address; blocks = g .blocks; owner = d } in
-      let over : InHeap c f =
+      let over : HeapSegment c f =
       record { atBlock = h .atBlock; fromHeap = h .fromHeap; toSafe = h .toSafe; some = h .some; byModule = m } in
       record {
         fits = λ lo fs l r. (over, l, r);
         inside = λ fs k r l u. code-in f fs [] k l u;
         outside = λ fs k out. code-past f fs k (h .some) out;
       }
+
+  in-front : (f : Segment) (xs ys : List Segment) → f ∈ xs → f ∈ xs ++ ys
+  in-front f [] ys m = absurd m
+  in-front f (x ∷ xs) ys (inl e) = inl e
+  in-front f (x ∷ xs) ys (inr m) = inr (in-front f xs ys m)
+
+  pub replaced-has : (put : Segment → List Segment) (g f : Segment) → f ∈ put g → (lo : ℕ) (gs : List Segment) → Row lo gs → g ∈ gs
+      → f ∈ replacedAt (g .address) put gs
+  unfolding replacedAt
+  replaced-has put g f p lo [] r m = absurd m
+  replaced-has put g f p lo (e ∷ es) r (inl q) = rw (← q, eq-eqb (g .address) (g .address) refl) (in-front f (put g) es p)
+  replaced-has put g f p lo (e ∷ es) r (inr m) =
+      rw (address-behind e es (r .0) (r .2) g m) (inr (replaced-has put g f p (endBlock c e) es (r .2) m))
 
   pub replace-row : (put : Segment → List Segment) (g : Segment) → InPlaceOf g (put g) → (lo : ℕ) (gs : List Segment) → Row lo gs → g ∈ gs
       → Row lo (replacedAt (g .address) put gs)
@@ -283,3 +307,14 @@ module _ (c : Config) where
         λ k l u. code-past f (replacedAt (g .address) put fs) k (r .0 .some) (λ h. omega arith) ∙ inside k l u,
         λ k out. code-cong f (replacedAt (g .address) put fs) fs k (outside k out),
       )
+
+  -- a free block stays free: it is none of g's
+  pub replaced-free : (put : Segment → List Segment) (g : Segment) → InPlaceOf g (put g) → (lo : ℕ) (gs : List Segment) → Row lo gs → g ∈ gs
+      → (k : ℕ) → codeBy c gs k ≡ freeCode → codeBy c (replacedAt (g .address) put gs) k ≡ freeCode
+  replaced-free put g new lo gs r m k free =
+      let (row, inside, outside) = replace-row put g new lo gs r m in
+      outside k
+      (λ l. byTest (ltb k (endBlock c g))
+      (λ t. absurd (code-held g [] k (row-in-heap lo gs r g m .byModule) l (ltb-true _ _ t) (sym (member-code lo gs r g m k l (ltb-true _ _ t)) ∙ free)))
+      (λ t. ltb-false _ _ t))
+      ∙ free

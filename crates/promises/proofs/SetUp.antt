@@ -42,6 +42,8 @@ fresh-holds c ram g n bytes =
           ∙ setUpCode-heap c k (heapBlock-pos facts) l u ∙ sym (code-none c k);
       other = λ k l out. setUpRam-code c ram facts n k l;
       frames = slice-empty (c .safe .0) (setUpRam c ram);
+      current = refl;
+      bound = refl;
       chain = tt;
     }
 

@@ -12,7 +12,7 @@ use Rattle.rules.specs.Memory.{startOf, heapBlock, safeBlock, codeOf, startCode
 use Rattle.rules.specs.Free.{segmentBlocks}
 use Rattle.laws.proofs.Codes.{ownerOf-start, starts-start, starts-later, starts-free}
 use Rattle.laws.proofs.Segments.{segment-is}
-use Rattle.promises.specs.Ledger.{Segment, firstBlock, endBlock, InHeap, codeBy, segmentAt, shownFrom, shown}
+use Rattle.promises.specs.Ledger.{Segment, firstBlock, endBlock, HeapSegment, codeBy, segmentAt, shownFrom, shown}
 use Rattle.promises.specs.Promise.{_∈_}
 use Rattle.promises.proofs.Row.{Row, row-in-heap, member-behind, member-code, code-behind, code-first, code-later, code-past, code-none, code-below}
 
@@ -26,7 +26,7 @@ module _ (c : Config) (ram : List ℕ) where
   module _ (lo : ℕ) (gs : List Segment) (row : Row c lo gs) (codes : Codes lo gs) (g : Segment) (m : g ∈ gs) where
     pub member-first : codeOf (c .bot) ram (firstBlock c g) ≡ startCode (g .owner)
     member-first =
-        let h : InHeap c g = row-in-heap c lo gs row g m in
+        let h : HeapSegment c g = row-in-heap c lo gs row g m in
         let l : firstBlock c g < endBlock c g = omega (arith, h .some) in
         codes (firstBlock c g) (member-behind c lo gs row g m) (omega (arith, h .toSafe))
         ∙ member-code c lo gs row g m (firstBlock c g) (omega arith) l
@@ -37,14 +37,14 @@ module _ (c : Config) (ram : List ℕ) where
 
     pub member-later : (k : ℕ) → firstBlock c g < k → k < endBlock c g → codeOf (c .bot) ram k ≡ laterCode (g .owner)
     member-later k l u =
-        let h : InHeap c g = row-in-heap c lo gs row g m in
+        let h : HeapSegment c g = row-in-heap c lo gs row g m in
         codes k (omega (arith, member-behind c lo gs row g m)) (omega (arith, h .toSafe))
         ∙ member-code c lo gs row g m k (omega arith) u
         ∙ code-later c g [] k l u
 
     pub member-blocks : segmentBlocks c ram (firstBlock c g) ≡ g .blocks
     member-blocks =
-        let h : InHeap c g = row-in-heap c lo gs row g m in
+        let h : HeapSegment c g = row-in-heap c lo gs row g m in
         segment-is c ram (g .owner) (firstBlock c g) (g .blocks) member-owner (h .some) (h .toSafe) member-later
         (λ l q. code-behind c lo gs row g m (g .owner)
         (sym (codes (endBlock c g) (omega (arith, member-behind c lo gs row g m)) l) ∙ q))

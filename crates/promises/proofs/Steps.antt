@@ -2,8 +2,9 @@
 -- Assumes nothing.
 use Prim.Native.Nat.{ℕ}
 use mathlib.Core.Path.{_≡_, refl, sym, _∙_, subst}
-use mathlib.Core.Logic.{_⊎_}
+use mathlib.Core.Logic.{_⊎_, inl, inr, ⊎-elim}
 use mathlib.Core.List.{List}
+use Rattle.rules.specs.declared.RamByte.{RamByte}
 use Rattle.rules.specs.declared.Config.{Config}
 use Rattle.rules.specs.declared.State.{State}
 use Rattle.rules.specs.declared.Frame.{Frame}
@@ -18,10 +19,10 @@ use Rattle.rules.specs.Return.{topFrame, returned, returnAnswer}
 use Rattle.rules.specs.Malloc.{mallocAnswer}
 use Rattle.rules.specs.Free.{freeAnswer, changeAnswer}
 use Rattle.promises.specs.Operations.{Operation, store, call, return, malloc, free, change, Fits, step}
-use Rattle.promises.specs.History.{History, setUp, _then_, after, stateOf, ramOf, configOf, StoredBy, InMap, InSafeStack, Assumed}
+use Rattle.promises.specs.History.{History, setUp, _then_, after, stateOf, ramOf, configOf, answerTo, StoredBy, InMap, InSafeStack, Assumed, Stretch, none, next}
 use Rattle.promises.specs.Ledger.{ledger}
-use Rattle.promises.specs.Calls.{openCalls}
-use Rattle.promises.proofs.Holds.{After, HoldsAfter}
+use Rattle.promises.specs.Calls.{noted, openCalls}
+use Rattle.promises.proofs.Holds.{Holds, After, Kept, HoldsAfter}
 use Rattle.promises.proofs.SetUp.{set-up-holds}
 use Rattle.promises.proofs.Store.{store-holds}
 use Rattle.promises.proofs.Call.{call-holds}
@@ -41,7 +42,7 @@ returned-config s (Local site) = refl
 returned-config s (Cross site bound domain) = refl
 returned-config s Damage = refl
 
-step-config : (s : State) (ram : List ℕ) (o : Operation) → step s ram o .state .config ≡ s .config
+pub step-config : (s : State) (ram : List ℕ) (o : Operation) → step s ram o .state .config ≡ s .config
 step-config s ram (store a b) = give-config (storeAnswer s ram a) s ram s _ refl
 step-config s ram (call table t site p) = give-config (callAnswer s ram table t site p) s ram _ _ refl
 step-config s ram return = give-config (returnAnswer s ram) s ram _ ram (returned-config s (topFrame s ram))
@@ -51,16 +52,48 @@ step-config s ram (change a d) = give-config (changeAnswer s ram a d) s ram s _ 
 
 -- ---- one operation
 
-step-holds : (h : History) → HoldsAfter h → (o : Operation) → Fits o
+-- what is no store
+abbrev pub NoStore : Operation → Type 0
+NoStore (store a b) = ⊥
+NoStore (call table t site p) = Unit {0}
+NoStore return = Unit {0}
+NoStore (malloc size) = Unit {0}
+NoStore (free a) = Unit {0}
+NoStore (change a d) = Unit {0}
+
+pub as-store : (o : Operation) → ((a : RamByte) × (b : ℕ) × (o ≡ store a b)) ⊎ NoStore o
+as-store (store a b) = inl (a, b, refl)
+as-store (call table t site p) = inr tt
+as-store return = inr tt
+as-store (malloc size) = inr tt
+as-store (free a) = inr tt
+as-store (change a d) = inr tt
+
+-- it keeps what holds, whatever its operands are
+pub other-kept : (h : History) → HoldsAfter h → (o : Operation) → NoStore o
+    → Kept (stateOf h) (ledger h) (openCalls h) o (ramOf h) (step (stateOf h) (ramOf h) o)
+other-kept h i (store a b) n = absurd n
+other-kept h i (call table t site p) n = call-holds (stateOf h) (ramOf h) (ledger h) (openCalls h) i table t site p
+other-kept h i return n = return-holds (stateOf h) (ramOf h) (ledger h) (openCalls h) i
+other-kept h i (malloc size) n = malloc-holds (stateOf h) (ramOf h) (ledger h) (openCalls h) i size
+other-kept h i (free a) n = free-holds (stateOf h) (ramOf h) (ledger h) (openCalls h) i a
+other-kept h i (change a d) n = change-holds (stateOf h) (ramOf h) (ledger h) (openCalls h) i a d
+
+abbrev StepHolds : History → Operation → Type 0
+StepHolds h o =
+    Fits o
     → ((x : ℕ) → StoredBy h o x trusted → InMap (stateOf h .config) x ⊎ InSafeStack (stateOf h .config) x → ⊥)
     → After (stateOf h) (ledger h) (openCalls h) o (step (stateOf h) (ramOf h) o)
-step-holds h i (store a b) fits quiet =
-    store-holds (stateOf h) (ramOf h) (ledger h) (openCalls h) i a b (fits .1) (λ e d. quiet (a .0) (b, refl, e, d))
-step-holds h i (call table t site p) fits quiet = call-holds (stateOf h) (ramOf h) (ledger h) (openCalls h) i table t site p .0
-step-holds h i return fits quiet = return-holds (stateOf h) (ramOf h) (ledger h) (openCalls h) i .0
-step-holds h i (malloc size) fits quiet = malloc-holds (stateOf h) (ramOf h) (ledger h) (openCalls h) i size .0
-step-holds h i (free a) fits quiet = free-holds (stateOf h) (ramOf h) (ledger h) (openCalls h) i a .0
-step-holds h i (change a d) fits quiet = change-holds (stateOf h) (ramOf h) (ledger h) (openCalls h) i a d .0
+
+step-holds : (h : History) → HoldsAfter h → (o : Operation) → StepHolds h o
+step-holds h i o =
+    ⊎-elim
+    (λ w.
+    subst (StepHolds h) (sym (w .2))
+    (λ fits quiet.
+    store-holds (stateOf h) (ramOf h) (ledger h) (openCalls h) i (w .0) (w .1) (fits .1) (λ e d. quiet (w .0 .0) (w .1, refl, e, d))))
+    (λ n fits quiet. other-kept h i o n .0)
+    (as-store o)
 
 -- ---- every history
 
@@ -70,6 +103,13 @@ always (setUp c ram) a = set-up-holds c ram (a .0) (a .1)
 always (h then o) a =
     let (e, i) = always h (a .0) in (
       step-config (stateOf h) (ramOf h) o ∙ e,
-      step-holds h i o (a .1)
-          (subst (λ (c : Config). (x : ℕ) → StoredBy h o x trusted → InMap c x ⊎ InSafeStack c x → ⊥) (sym e) (a .2)),
+      subst
+          (λ (c : Config). Holds (stateOf (h then o)) (ramOf (h then o)) (ledger (h then o)) (noted c o (answerTo h o) (openCalls h))) e
+          (step-holds h i o (a .1)
+          (subst (λ (c : Config). (x : ℕ) → StoredBy h o x trusted → InMap c x ⊎ InSafeStack c x → ⊥) (sym e) (a .2))),
     )
+
+-- a history is as assumed at each moment of it
+pub earlier : (P : History → Operation → Type 0) (from : History) {h : History} → Assumed h → Stretch P from h → Assumed from
+earlier P from a none = a
+earlier P from a (next before p) = earlier P from (a .0) before

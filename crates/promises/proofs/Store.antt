@@ -123,6 +123,8 @@ module _ (s : State) (ram : List ℕ) (gs : List Segment) (ks : List OpenCall) (
             (omega (arith, h .size, h .good .safepointer≤top, g .top≤ram)) (omega (arith, n, h .size, h .good .safepointer≤top, g .top≤ram))
             (λ y l u. getD-set-other ram x y b 0 (λ e. out (inr (omega arith, omega (arith, h .good .safepointer≤top)))))
             ∙ h .frames;
+        current = h .current;
+        bound = h .bound;
         chain = h .chain;
       }
 

@@ -1,8 +1,14 @@
--- What a rule gives determines answer, state and RAM, so no second result satisfies a contract.
+-- What stands behind an equation, or what a rule gives, determines the rest, so no second result satisfies a contract.
 -- Assumes nothing.
-use mathlib.Core.Path.{sym, _∙_}
+use mathlib.Core.Path.{sym, ap, _∙_}
 use Rattle.rules.specs.Answers.{Given}
-use Rattle.promises.specs.Uniqueness.{Determined, Uniqueness}
+use Rattle.promises.specs.Uniqueness.{Only, OnlyBoth, Determined, Uniqueness}
+
+only : {A : Type 0} (v : A) → Only v
+only v r r′ e e′ = e ∙ sym e′
+
+only-both : {A B : Type 0} (v : A) (w : A → B) → OnlyBoth v w
+only-both v w r r′ x x′ (e, q) (e′, q′) = (e ∙ sym e′, q ∙ ap w (e ∙ sym e′) ∙ sym q′)
 
 determined : (g : Given) → Determined g
 determined g r r′ ram ram′ (a, s, m) (a′, s′, m′) =
@@ -13,11 +19,15 @@ determined g r r′ ram ram′ (a, s, m) (a′, s′, m′) =
 pub uniqueness : Uniqueness
 uniqueness =
     record {
-      setUp = λ c ram. determined _;
+      only = only;
+      onlyBoth = only-both;
+      «set_up» = λ c ram. determined _;
       store = λ s ram a b. determined _;
       call = λ s ram table t site p. determined _;
-      return = λ s ram. determined _;
+      ret = λ s ram. determined _;
       malloc = λ s ram size. determined _;
       free = λ s ram a. determined _;
       change = λ s ram a d. determined _;
+      «number_of» = λ a. only _;
+      «value_of» = λ a. only _;
     }

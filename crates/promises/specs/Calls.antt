@@ -1,27 +1,29 @@
 -- The open calls, made from the accepted calls and returns, and the bytes of their frames.
--- Assumes nothing.
-use Prim.Native.Nat.{ℕ}
+-- No axiom.
+use Prim.Native.Nat.{ℕ, _-_}
 use mathlib.Core.Path.{_≡_}
 use mathlib.Core.Bool.{cond}
 use mathlib.Core.List.{List, [], _∷_, _++_}
 use Rattle.rules.specs.declared.RamByte.{RamByte}
 use Rattle.rules.specs.declared.FlashWord.{FlashWord}
-use Rattle.rules.specs.declared.State.{State}
+use Rattle.rules.specs.declared.Config.{Config}
 use Rattle.rules.specs.declared.Frame.{Frame}
 use Rattle.rules.specs.declared.Frame.the-variants.{Local, Cross}
 use Rattle.rules.specs.declared.Answer.{Answer}
 use Rattle.rules.specs.declared.Answer.the-variants.{Done, Refused}
 use Rattle.rules.specs.declared.Refusal.the-variants.{NoFrame}
-use Rattle.rules.specs.Code.{isLocal}
+use Rattle.rules.specs.Memory.{ramBytes, trusted}
+use Rattle.rules.specs.Code.{isLocal, calledDomain}
+use Rattle.rules.specs.State.{ramByte}
 use Rattle.rules.specs.Call.{frameBytes}
 use Rattle.rules.specs.Answers.{Given}
 use Rattle.promises.specs.Operations.{Operation, store, call, return, malloc, free, change}
-use Rattle.promises.specs.History.{History, setUp, _then_, stateOf, answerTo}
+use Rattle.promises.specs.History.{History, setUp, _then_, configOf, answerTo}
 
--- a cross-domain call was made with a stack pointer
+-- a cross-domain call was made to a domain, with a stack pointer
 pub data Kind : Type 0 where
   local : Kind
-  cross : (pointer : RamByte) → Kind
+  cross : (called : ℕ) (pointer : RamByte) → Kind
 
 -- its kind, its return site, and the domain and the stack bound that were there before it
 pub record OpenCall : Type 0 where
@@ -30,10 +32,35 @@ pub record OpenCall : Type 0 where
   pub domain : ℕ
   pub bound : RamByte
 
--- ---- made from what was asked and answered, and the state that was there. It never looks at RAM.
+-- ---- what they leave: the called domain and the pointer of the newest that is cross-domain, what was there before a local one; with none
+-- open, what a fresh state has (section 4)
 
-abbrev pub opened : State → FlashWord → FlashWord → RamByte → OpenCall
-opened s t site p = record { kind = cond (isLocal (s .config) t) local (cross p); site = site; domain = s .domain; bound = s .bound }
+abbrev pub domainIn : Kind → ℕ → ℕ
+domainIn local d = d
+domainIn (cross e p) d = e
+
+abbrev pub boundIn : Kind → RamByte → RamByte
+boundIn local b = b
+boundIn (cross e p) b = p
+
+abbrev pub domainBy : List OpenCall → ℕ
+domainBy [] = trusted
+domainBy (k ∷ ks) = domainIn (k .kind) (k .domain)
+
+abbrev pub boundBy : List OpenCall → RamByte
+boundBy [] = ramByte (ramBytes - 1)
+boundBy (k ∷ ks) = boundIn (k .kind) (k .bound)
+
+-- ---- made from what was asked and answered. It never looks at the machine.
+
+abbrev pub opened : Config → List OpenCall → FlashWord → FlashWord → RamByte → OpenCall
+opened c ks t site p =
+    record {
+      kind = cond (isLocal c t) local (cross (calledDomain c t) p);
+      site = site;
+      domain = domainBy ks;
+      bound = boundBy ks;
+    }
 
 -- without the newest
 abbrev pub older : List OpenCall → List OpenCall
@@ -41,24 +68,24 @@ older [] = []
 older (k ∷ ks) = ks
 
 -- what an operation and its answer make of the open calls, newest first
-abbrev pub noted : State → Operation → Answer → List OpenCall → List OpenCall
-noted s o (Refused r) ks = ks
-noted s (store a b) (Done v) ks = ks
-noted s (call table t site p) (Done v) ks = opened s t site p ∷ ks
-noted s return (Done v) ks = older ks
-noted s (malloc size) (Done v) ks = ks
-noted s (free a) (Done v) ks = ks
-noted s (change a d) (Done v) ks = ks
+abbrev pub noted : Config → Operation → Answer → List OpenCall → List OpenCall
+noted c o (Refused r) ks = ks
+noted c (store a b) (Done v) ks = ks
+noted c (call table t site p) (Done v) ks = opened c ks t site p ∷ ks
+noted c return (Done v) ks = older ks
+noted c (malloc size) (Done v) ks = ks
+noted c (free a) (Done v) ks = ks
+noted c (change a d) (Done v) ks = ks
 
 unfoldable pub openCalls : History → List OpenCall
 openCalls (setUp c ram) = []
-openCalls (h then o) = noted (stateOf h) o (answerTo h o) (openCalls h)
+openCalls (h then o) = noted (configOf h) o (answerTo h o) (openCalls h)
 
 -- ---- their frames
 
 abbrev pub frameFor : Kind → OpenCall → Frame
 frameFor local k = Local (k .site)
-frameFor (cross p) k = Cross (k .site) (k .bound) (k .domain)
+frameFor (cross e p) k = Cross (k .site) (k .bound) (k .domain)
 
 -- "oldest first"
 unfoldable pub framesOf : List OpenCall → List ℕ

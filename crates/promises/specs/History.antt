@@ -1,5 +1,5 @@
 -- Histories: a set-up and any sequence of operations after it, refused ones included; and all that is assumed of one.
--- Assumes nothing.
+-- No axiom.
 use Prim.Native.Nat.{ℕ, _+_, _≤_, _<_}
 use mathlib.Core.Path.{_≡_}
 use mathlib.Core.Logic.{_⊎_}

@@ -1,5 +1,5 @@
 -- The segments that the accepted requests leave, and the segments that the map shows.
--- Assumes nothing.
+-- No axiom.
 use Prim.Native.Nat.{ℕ, zero, suc, _+_, _-_, _*_, _≤_, _<_}
 use mathlib.Core.Path.{_≡_}
 use mathlib.Core.Bool.{cond, _&&_}
@@ -12,7 +12,8 @@ use Rattle.rules.specs.Memory.{blockBytes, startOf, blockOf, blocksFor, heapBlo
 use Rattle.rules.specs.State.{ramByte}
 use Rattle.rules.specs.Free.{segmentBlocks}
 use Rattle.promises.specs.Operations.{Operation, store, call, return, malloc, free, change}
-use Rattle.promises.specs.History.{History, setUp, _then_, domainOf, answerTo}
+use Rattle.promises.specs.History.{History, setUp, _then_, answerTo}
+use Rattle.promises.specs.Calls.{openCalls, domainBy}
 
 -- where it starts, how many blocks it has, and whose it is
 pub record Segment : Type 0 where
@@ -20,7 +21,7 @@ pub record Segment : Type 0 where
   pub blocks : ℕ
   pub owner : ℕ
 
--- ---- the ledger: what was asked and answered, and the domain that was current. It never looks at RAM.
+-- ---- the ledger, made from what was asked and answered. It never looks at the machine.
 
 -- g entered where its address puts it
 unfoldable pub entered : Segment → List Segment → List Segment
@@ -52,7 +53,7 @@ booked d (change a e) (Done v) gs = replacedAt (a .0) (madeOver e) gs
 
 unfoldable pub ledger : History → List Segment
 ledger (setUp c ram) = []
-ledger (h then o) = booked (domainOf h) o (answerTo h o) (ledger h)
+ledger (h then o) = booked (domainBy (openCalls h)) o (answerTo h o) (ledger h)
 
 -- ---- its segments
 
@@ -68,7 +69,7 @@ abbrev pub InSegment : Segment → ℕ → Type 0
 InSegment g x = (g .address ≤ x) × (x < g .address + g .blocks * blockBytes)
 
 -- it starts where a block starts, lies in the heap, isn't empty, and its owner is 0 to 6
-pub record InHeap (c : Config) (g : Segment) : Type 0 where
+pub record HeapSegment (c : Config) (g : Segment) : Type 0 where
   pub atBlock : startOf (c .bot) (firstBlock c g) ≡ g .address
   pub fromHeap : heapBlock c ≤ firstBlock c g
   pub toSafe : endBlock c g ≤ safeBlock c

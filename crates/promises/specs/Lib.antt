@@ -1,9 +1,24 @@
--- What is promised, to be read beside document 01.
+-- What is promised, to be read beside document 01. The files stand in the order in which they are read.
+--
+-- `A → B`              if A then B              `(x : ℕ) → ..`       for every number x
+-- `A × B`              both                     `(x : ℕ) × ..`       there is a number x
+-- `A ⊎ B`              one of the two           `A → ⊥`, `a ≢ b`     not
+-- `a ≡ b`              they are the same        `A ↔ B`              if and only if
+-- `Unit`               nothing is asked         `⊥`                  what is never so
+-- `[]`, `k ∷ ks`       the empty list; the one that starts with k and goes on with ks
+-- `xs ++ ys`           the one list and behind it the other
+-- `k .site`            the site of k; `a .0` is the number in an address
+-- `λ l o. ..`          for a history l and an operation o, what stands behind the point
+-- `cond t a b`         a if the test t holds, otherwise b; `eqb`, `ltb`, `leb` are the tests for equal, less, and less or equal
+-- `f a b = ..`         f of a and b is ..; several such lines, one for each case
+-- `h then o`           the history h and after it the operation o
+-- The other words are of the rules, crates/rules/specs.
+
 -- Demand 3: operations and histories, the two ghosts that are made from them, and the promise
 pub mod Operations
 pub mod History
-pub mod Ledger
 pub mod Calls
+pub mod Ledger
 pub mod Promise
 pub mod Incident
 -- demand 2 and section 10

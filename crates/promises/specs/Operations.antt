@@ -1,5 +1,5 @@
 -- What can be asked of the machine (section 5), as data, and what the rules then give.
--- Assumes nothing.
+-- No axiom.
 use Prim.Native.Nat.{ℕ, _<_}
 use mathlib.Core.List.{List}
 use lib.ListN.{getD}

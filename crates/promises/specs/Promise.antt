@@ -1,11 +1,8 @@
 -- Demand 3: "For any sequence of operations after an accepted set-up, refused ones included, in which no trusted store lands in the map or
 -- the safe stack area:" what is promised, with the demand's words above each part. `promise` of proofs/Theorem.antt proves it.
---
--- To be read so: `A → B` if A then B; `(x : ℕ) → ..` for every number x; `A × B` both; `A ⊎ B` one of the two; `A → ⊥` and `a ≢ b` not;
--- `a ≡ b` they are the same; `h then o` the history h and after it the operation o; `a .0` the number in an address; `[]` the empty list,
--- `k ∷ ks` the list that starts with k. The other words are of History.antt, Ledger.antt, Calls.antt and of the rules.
--- Assumes nothing.
-use Prim.Native.Nat.{ℕ, _*_, _≤_, _<_}
+-- Lib.antt says how the signs are read.
+-- No axiom.
+use Prim.Native.Nat.{ℕ, _+_, _*_, _≤_, _<_}
 use mathlib.Core.Path.{_≡_}
 use mathlib.Core.Bool.{true}
 use mathlib.Core.Logic.{_⊎_, _≢_}
@@ -15,14 +12,13 @@ use lib.Seq.{slice}
 use Rattle.rules.specs.declared.RamByte.{RamByte}
 use Rattle.rules.specs.declared.Config.{Config}
 use Rattle.rules.specs.declared.Answer.the-variants.{Done}
-use Rattle.rules.specs.Memory.{ramBytes, heapBlock, safeBlock, mapBytes, perByte, codeOf, trusted}
-use Rattle.rules.specs.State.{goodState}
+use Rattle.rules.specs.Memory.{ramBytes, blockBytes, heapBlock, safeBlock, mapBytes, perByte, codeOf, trusted}
+use Rattle.rules.specs.State.{ramByte, goodState}
 use Rattle.rules.specs.SetUp.{setUpCode}
-use Rattle.rules.specs.Return.{returnOf}
-use Rattle.promises.specs.Operations.{Operation, free, change}
-use Rattle.promises.specs.History.{History, _then_, stateOf, ramOf, configOf, domainOf, answerTo, byteAt, StoredBy, Bytes, Assumed, Stretch}
-use Rattle.promises.specs.Ledger.{Segment, ledger, InSegment, InHeap, Apart, codeBy, shown}
-use Rattle.promises.specs.Calls.{OpenCall, cross, openCalls, framesOf, Returns}
+use Rattle.promises.specs.Operations.{Operation, return, malloc, free, change}
+use Rattle.promises.specs.History.{History, _then_, after, stateOf, ramOf, configOf, domainOf, answerTo, byteAt, StoredBy, Bytes, Assumed, Stretch}
+use Rattle.promises.specs.Ledger.{Segment, ledger, InSegment, HeapSegment, Apart, codeBy, shown}
+use Rattle.promises.specs.Calls.{OpenCall, cross, openCalls, domainBy, boundBy, framesOf, Returns}
 
 infix 4 _∈_
 -- x is one of a list
@@ -41,13 +37,25 @@ codeAfter h k = codeOf (configOf h .bot) (ramOf h) k
 abbrev pub OwnSegment : History → RamByte → ℕ → Type 0
 OwnSegment h a n = (g : Segment) × (g ∈ ledger h) × (g .address ≡ a .0) × (g .blocks ≡ n) × (g .owner ≡ domainOf h)
 
+-- after a malloc of size bytes the domain that was current has a segment at address v, of that size and less than a block more
+abbrev pub GivenSegment : History → ℕ → ℕ → Type 0
+GivenSegment h size v =
+    (g : Segment) × (g ∈ ledger (h then malloc size)) × (g .address ≡ v) × (g .owner ≡ domainOf h)
+    × (size ≤ g .blocks * blockBytes) × (g .blocks * blockBytes < size + blockBytes)
+
+-- the operation asked next gives g up: its own domain asks to free it, or to make it over to another
+abbrev pub GivesUp : Segment → History → Operation → Type 0
+GivesUp g h o =
+    (domainOf h ≡ g .owner)
+    × ((o ≡ free (ramByte (g .address))) ⊎ ((e : ℕ) × (e ≢ g .owner) × (o ≡ change (ramByte (g .address)) e)))
+
 -- the operation asked next is a store to x that is carried out while the segment's domain, or the trusted one, is current
 abbrev pub StoredByHolder : Segment → ℕ → History → Operation → Type 0
 StoredByHolder g x h o = StoredBy h o x (g .owner) ⊎ StoredBy h o x trusted
 
 -- x is a byte of the run-time stack above the pointer with which the cross-domain call k was made
 abbrev pub AbovePointer : OpenCall → ℕ → Type 0
-AbovePointer k x = (p : RamByte) × (k .kind ≡ cross p) × (p .0 < x) × (x < ramBytes)
+AbovePointer k x = (e : ℕ) × (p : RamByte) × (k .kind ≡ cross e p) × (p .0 < x) × (x < ramBytes)
 
 pub record Promise (h : History) : Type 0 where
   -- "the map shows exactly the segments that the accepted requests leave": in address order;
@@ -57,33 +65,41 @@ pub record Promise (h : History) : Type 0 where
   -- and each other place of the map the code that set-up wrote
   pub otherCodes : (k : ℕ) → k < mapBytes (configOf h) * perByte → (IsHeapBlock (configOf h) k → ⊥)
       → codeAfter h k ≡ setUpCode (configOf h) k
-  -- "no two sharing a block";
+  -- "no two sharing a block": they follow each other, and what has a byte in common is one segment;
   pub apart : Apart (configOf h) (heapBlock (configOf h)) (ledger h)
+  pub noneShared : (f g : Segment) → f ∈ ledger h → g ∈ ledger h → (x : ℕ) → InSegment f x → InSegment g x → f ≡ g
   -- each lies in the heap, none is empty, and their owners are 0 to 6
-  pub inHeap : (g : Segment) → g ∈ ledger h → InHeap (configOf h) g
-  -- only its own domain gives a segment up: while another is current it stays, whatever is asked next
-  pub stays : (g : Segment) → g ∈ ledger h → domainOf h ≢ g .owner → (o : Operation) → g ∈ ledger (h then o)
+  pub inHeap : (g : Segment) → g ∈ ledger h → HeapSegment (configOf h) g
+  -- only its own domain gives a segment up: it stays, whatever else is asked next
+  pub stays : (g : Segment) → g ∈ ledger h → (o : Operation) → (GivesUp g h o → ⊥) → g ∈ ledger (h then o)
+  -- a malloc that is accepted gives the domain that asks a segment at the address that is its value, as large as was asked and less than
+  -- a block larger
+  pub given : (size v : ℕ) → answerTo h (malloc size) ≡ Done v → GivenSegment h size v
   -- a free or a change of owner that is accepted is of a segment of the domain that asks, and its value is how many blocks that has
   pub freed : (a : RamByte) (n : ℕ) → answerTo h (free a) ≡ Done n → OwnSegment h a n
   pub changed : (a : RamByte) (d n : ℕ) → answerTo h (change a d) ≡ Done n → OwnSegment h a n
   -- "the safe stack holds exactly the open calls, oldest first": the bytes from safe to the safe pointer are their frames
   pub safeStack : slice (configOf h .safe .0) (stateOf h .safepointer .0) (ramOf h) ≡ framesOf (openCalls h)
+  -- and the current domain and the stack bound are those that the open calls leave, the trusted domain and 4095 if there are none
+  pub current : domainOf h ≡ domainBy (openCalls h)
+  pub bound : stateOf h .bound ≡ boundBy (openCalls h)
   -- "a return is refused only when there are none, and otherwise restores its own call's address, domain and bound"
-  pub returns : Returns (openCalls h) (returnOf (stateOf h) (ramOf h))
-  -- "a segment's bytes change only by stores of its domain or the trusted one": if the operation asked next changes one, it is such a store;
-  pub segmentStep : (g : Segment) → g ∈ ledger h → (x : ℕ) → InSegment g x
-      → (o : Operation) → byteAt (h then o) x ≢ byteAt h x → StoredByHolder g x h o
-  -- and over any stretch up to now in which the segment stayed and none was such a store, each of its bytes is what it was
+  pub returns : Returns (openCalls h) (after (h then return))
+  -- "a segment's bytes change only by stores of its domain or the trusted one": if the operation asked next changes one, it is such a store,
+  -- whether the segment was there before or is made by that operation;
+  pub segmentStep : (g : Segment) (o : Operation) → (g ∈ ledger h) ⊎ (g ∈ ledger (h then o)) → (x : ℕ) → InSegment g x
+      → byteAt (h then o) x ≢ byteAt h x → StoredByHolder g x h o
+  -- and over any stretch up to now in which the segment was made or stayed, and none was such a store, each of its bytes is what it was
   pub segmentStretch : (g : Segment) (x : ℕ) → InSegment g x → (from : History)
-      → Stretch (λ l o. (g ∈ ledger l) × (StoredByHolder g x l o → ⊥)) from h → byteAt h x ≡ byteAt from x
+      → Stretch (λ l o. ((g ∈ ledger l) ⊎ (g ∈ ledger (l then o))) × (StoredByHolder g x l o → ⊥)) from h → byteAt h x ≡ byteAt from x
   -- "while a cross-domain call is open, stack bytes above its pointer change only by trusted stores": if the operation asked next changes
-  -- one, it is a trusted store;
-  pub stackStep : (k : OpenCall) → k ∈ openCalls h → (x : ℕ) → AbovePointer k x
-      → (o : Operation) → byteAt (h then o) x ≢ byteAt h x → StoredBy h o x trusted
-  -- and over any stretch up to now in which the call was open, whatever calls and returns lie between, and none was a trusted store to the
-  -- byte, it is what it was
+  -- one, it is a trusted store, whether the call was open before or is opened by that operation;
+  pub stackStep : (k : OpenCall) (o : Operation) → (k ∈ openCalls h) ⊎ (k ∈ openCalls (h then o)) → (x : ℕ) → AbovePointer k x
+      → byteAt (h then o) x ≢ byteAt h x → StoredBy h o x trusted
+  -- and over any stretch up to now in which the call was opened or open, whatever calls and returns lie between, and none was a trusted
+  -- store to the byte, it is what it was
   pub stackStretch : (k : OpenCall) (x : ℕ) → AbovePointer k x → (from : History)
-      → Stretch (λ l o. (k ∈ openCalls l) × (StoredBy l o x trusted → ⊥)) from h → byteAt h x ≡ byteAt from x
+      → Stretch (λ l o. ((k ∈ openCalls l) ⊎ (k ∈ openCalls (l then o))) × (StoredBy l o x trusted → ⊥)) from h → byteAt h x ≡ byteAt from x
   -- the configuration stays as it was given, the state stays good, and RAM stays 4,096 bytes
   pub sameConfig : stateOf h .config ≡ configOf h
   pub good : goodState (stateOf h) ≡ true

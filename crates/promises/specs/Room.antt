@@ -1,6 +1,6 @@
 -- Demand 2: malloc is refused for lack of room only if there is none, and what was freed is room again.
--- The theorems are `room-found` and `freed-room` of proofs/Room.antt.
--- Assumes nothing.
+-- The theorems are `room-found`, `freed-room` and `room-stays` of proofs/Room.antt.
+-- No axiom.
 use Prim.Native.Nat.{ℕ, _+_, _*_, _≤_, _<_}
 use mathlib.Core.Path.{_≡_}
 use mathlib.Core.Bool.{true}
@@ -16,6 +16,8 @@ use Rattle.rules.specs.Memory.{ramBytes, blockBytes, blockOf, blocksFor, isFree
 use Rattle.rules.specs.State.{goodState}
 use Rattle.rules.specs.Malloc.{mallocOf}
 use Rattle.rules.specs.Free.{freeOf}
+use Rattle.promises.specs.Operations.{malloc, free}
+use Rattle.promises.specs.History.{History, _then_, domainOf, answerTo, Assumed, Stretch}
 
 -- the n blocks from k on are free heap blocks
 abbrev pub FreeBlocks : Config → List ℕ → ℕ → ℕ → Type 0
@@ -36,3 +38,13 @@ FreedRoom =
     × ((next : State) (size : ℕ)
     → next .config ≡ s .config → goodState next ≡ true → next .domain ≢ trusted → 0 < size → size ≤ n * blockBytes
     → (v : ℕ) × (mallocOf next (freeOf s ram a .ram) size .answer ≡ Done v))
+
+-- and so it is whatever lies between, as long as no malloc is accepted: after the free of n blocks and any operations, of whatever domains,
+-- malloc by any module, of up to as many bytes as they have, is accepted
+abbrev pub RoomStays : Type 0
+RoomStays =
+    (h : History) (a : RamByte) (n : ℕ) → answerTo h (free a) ≡ Done n
+    → (l : History) → Assumed l
+    → Stretch (λ k o. (size v : ℕ) → o ≡ malloc size → answerTo k o ≡ Done v → ⊥) (h then free a) l
+    → domainOf l ≢ trusted → (size : ℕ) → 0 < size → size ≤ n * blockBytes
+    → (v : ℕ) × (answerTo l (malloc size) ≡ Done v)

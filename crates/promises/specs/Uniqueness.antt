@@ -1,7 +1,7 @@
 -- Section 10: "That no second answer can satisfy a contract is itself proved".
--- Every contract of the runtime says that what a function hands back, and RAM as it leaves it, are what the rule gives. The theorem is
--- `uniqueness` of proofs/Uniqueness.antt.
--- Assumes nothing.
+-- A contract has one of the forms below, and no two results meet one of that form. That every public function's contract, as it stands in the
+-- source, has one of them, is what tools/contracts.py sees to. The theorem is `uniqueness` of proofs/Uniqueness.antt.
+-- No axiom.
 use Prim.Native.Nat.{ℕ}
 use mathlib.Core.Path.{_≡_}
 use mathlib.Core.List.{List}
@@ -9,8 +9,9 @@ use Rattle.rules.specs.declared.RamByte.{RamByte}
 use Rattle.rules.specs.declared.FlashWord.{FlashWord}
 use Rattle.rules.specs.declared.Config.{Config}
 use Rattle.rules.specs.declared.State.{State}
+use Rattle.rules.specs.declared.Answer.{Answer}
 use Rattle.rules.specs.declared.Outcome.{Outcome}
-use Rattle.rules.specs.Answers.{Given, Gives}
+use Rattle.rules.specs.Answers.{numberOf, valueOf, Given, Gives}
 use Rattle.rules.specs.SetUp.{setUpOf}
 use Rattle.rules.specs.Store.{storeOf}
 use Rattle.rules.specs.Call.{callOf}
@@ -18,15 +19,29 @@ use Rattle.rules.specs.Return.{returnOf}
 use Rattle.rules.specs.Malloc.{mallocOf}
 use Rattle.rules.specs.Free.{freeOf, changeOf}
 
--- two results that both satisfy the contract are the same: answer, state and all of RAM
+-- a contract of the form `r ≡ v`, or `now (x .exit) ≡ v`: what it is about can be v alone
+abbrev pub Only : {A : Type 0} → A → Type 0
+Only {A} v = (r r′ : A) → r ≡ v → r′ ≡ v → r ≡ r′
+
+-- one of the form `(r ≡ v) × (now (x .exit) ≡ w r)`: the result and what is left in x
+abbrev pub OnlyBoth : {A B : Type 0} → A → (A → B) → Type 0
+OnlyBoth {A} {B} v w = (r r′ : A) (x x′ : B) → (r ≡ v) × (x ≡ w r) → (r′ ≡ v) × (x′ ≡ w r′) → (r ≡ r′) × (x ≡ x′)
+
+-- one of the form `Gives r (now (ram .exit)) g`: answer, state and all of RAM
 abbrev pub Determined : Given → Type 0
 Determined g = (r r′ : Outcome) (ram ram′ : List ℕ) → Gives r ram g → Gives r′ ram′ g → (r ≡ r′) × (ram ≡ ram′)
 
-pub record Uniqueness : Type 0 where
-  pub setUp : (c : Config) (ram : List ℕ) → Determined (setUpOf c ram)
+pub record Uniqueness : Type 1 where
+  -- each form
+  pub only : {A : Type 0} (v : A) → Only v
+  pub onlyBoth : {A B : Type 0} (v : A) (w : A → B) → OnlyBoth v w
+  -- the public functions of the runtime, by their names in the source
+  pub «set_up» : (c : Config) (ram : List ℕ) → Determined (setUpOf c ram)
   pub store : (s : State) (ram : List ℕ) (a : RamByte) (b : ℕ) → Determined (storeOf s ram a b)
   pub call : (s : State) (ram table : List ℕ) (t site : FlashWord) (p : RamByte) → Determined (callOf s ram table t site p)
-  pub return : (s : State) (ram : List ℕ) → Determined (returnOf s ram)
+  pub ret : (s : State) (ram : List ℕ) → Determined (returnOf s ram)
   pub malloc : (s : State) (ram : List ℕ) (size : ℕ) → Determined (mallocOf s ram size)
   pub free : (s : State) (ram : List ℕ) (a : RamByte) → Determined (freeOf s ram a)
   pub change : (s : State) (ram : List ℕ) (a : RamByte) (d : ℕ) → Determined (changeOf s ram a d)
+  pub «number_of» : (a : Answer) → Only (numberOf a)
+  pub «value_of» : (a : Answer) → Only (valueOf a)
