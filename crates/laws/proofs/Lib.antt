@@ -12,4 +12,6 @@ pub mod Frames
 pub mod Parts
 pub mod Search
 pub mod Segments
+pub mod Rows
+pub mod SetUp
 pub mod Answers

@@ -1,0 +1,73 @@
+-- What a run writes, by its tests.
+-- Assumes nothing.
+use Prim.Native.Nat.{ℕ, _+_, _≤_, _<_}
+use mathlib.Core.Path.{_≡_, ap, subst, _∙_}
+use mathlib.Core.Logic.{_≢_}
+use mathlib.Core.Bool.{Bool, true, false, cond}
+use mathlib.Core.List.{List, [], _++_, append-nil}
+use lib.Dec.{eqb}
+use native.Mathlib.Omega.{arith}
+use lib.ListN.{length, drop, replicate}
+use lib.Seq.{sets-eq}
+use borrow.Author.Tests.{lt-ltb, le-ltb, eq-eqb, ne-eqb}
+use Rattle.rules.specs.declared.Config.{Config}
+use Rattle.rules.specs.declared.Outcome.{Outcome}
+use Rattle.rules.specs.Memory.{ramBytes}
+use Rattle.rules.specs.Answers.{Given, Gives, numberOf}
+use Rattle.rules.specs.SetUp.{setUpOf}
+use Rattle.rules.specs.Script.{mostBytes, configAt, tableAt, headerGood, operationsPlace, longText, badText, setUpText, runText, scriptText}
+use Rattle.script.specs.Text.{Wrote, handed}
+use Rattle.script.specs.Run.{linesAt, textMost, written}
+
+-- a text written from the start of a lent place is what stands there, and behind it stands what stood there
+pub wrote-first : {l m text wanted : List ℕ} {r : ℕ} → wanted ≡ text → Wrote l m 0 text r → (r ≡ length wanted) × (m ≡ wanted ++ drop r l)
+wrote-first {l} {m} {text} {wanted} {r} e w =
+    let h : 0 + length text ≤ length l = omega (arith, w .place, w .room) in
+    let f : 0 + length text ≡ r = omega (arith, w .place) in
+    rw e (omega arith, w .bytes ∙ sets-eq text l 0 h ∙ ap (λ (k : ℕ). text ++ drop k l) f)
+
+module _ (input : List ℕ) (room : ℕ) where
+  pub written-none : room < textMost → written input room ≡ []
+  unfolding written
+  written-none h = rw (lt-ltb room textMost h)
+
+  module _ (h : textMost ≤ room) where
+    pub written-long : mostBytes < length input → written input room ≡ longText
+    unfolding written scriptText
+    written-long l = rw (le-ltb room textMost h, lt-ltb mostBytes (length input) l)
+
+    module _ (l : length input ≤ mostBytes) where
+      by-header : written input room ≡ cond (headerGood input) (runText input) badText
+      unfolding written scriptText
+      by-header = rw (le-ltb room textMost h, le-ltb mostBytes (length input) l)
+
+      pub written-bad : headerGood input ≡ false → written input room ≡ badText
+      written-bad b = by-header ∙ ap (λ (t : Bool). cond t (runText input) badText) b
+
+      pub written-good : headerGood input ≡ true → written input room ≡ runText input
+      written-good b = by-header ∙ ap (λ (t : Bool). cond t (runText input) badText) b
+
+-- the text of a run whose set-up gave g and handed back o
+module _ (g : Given) (lines : List ℕ) (o : Outcome) (same : o .answer ≡ g .answer) where
+  text-refused : numberOf (o .answer) ≢ 0 → setUpText g ++ cond (eqb (numberOf (g .answer)) 0) lines [] ≡ setUpText (handed o)
+  text-refused n = rw (← same, ne-eqb (numberOf (o .answer)) 0 n) (append-nil (setUpText (handed o)))
+
+  text-done : numberOf (o .answer) ≡ 0 → setUpText g ++ cond (eqb (numberOf (g .answer)) 0) lines [] ≡ setUpText (handed o) ++ lines
+  text-done n = rw (← same, eq-eqb (numberOf (o .answer)) 0 n)
+
+-- set-up, as it was run: on the configuration that was read and on zeros
+module _ (input : List ℕ) {config : Config} {ram : List ℕ} (o : Outcome)
+    (read : config ≡ configAt input) (gives : Gives o ram (setUpOf config (replicate ramBytes 0))) where
+  given : Gives o ram (setUpOf (configAt input) (replicate ramBytes 0))
+  given = subst (λ (c : Config). Gives o ram (setUpOf c (replicate ramBytes 0))) read gives
+
+  pub run-refused : numberOf (o .answer) ≢ 0 → runText input ≡ setUpText (handed o)
+  unfolding runText
+  run-refused n = text-refused (setUpOf (configAt input) (replicate ramBytes 0)) _ o (given .0) n
+
+  pub run-done : numberOf (o .answer) ≡ 0 → (table : List ℕ) → table ≡ tableAt input
+      → runText input ≡ setUpText (handed o) ++ linesAt input table (o .state) ram (operationsPlace input) 1
+  unfolding runText linesAt
+  run-done n table t =
+      text-done (setUpOf (configAt input) (replicate ramBytes 0)) _ o (given .0) n
+      ∙ rw (t, given .1, given .2)

@@ -1,0 +1,21 @@
+-- What a run of a script writes.
+use Prim.Native.Nat.{ℕ, _+_, _*_, _-_}
+use mathlib.Core.Bool.{cond}
+use mathlib.Core.List.{List, []}
+use lib.ListN.{length}
+use lib.Dec.{ltb}
+use Rattle.rules.specs.declared.State.{State}
+use Rattle.rules.specs.Script.{mostBytes, pairsPlace, linesFrom, scriptText}
+use Rattle.script.specs.Text.{lineMost, setUpMost}
+
+-- the lines of the operations from place at on, as many as there are
+unfoldable pub linesAt : List ℕ → List ℕ → State → List ℕ → ℕ → ℕ → List ℕ
+linesAt input table s ram at count = linesFrom (length input - at) input table s ram at count
+
+-- the most that a script of at most 65,536 bytes prints: no operation is shorter than a byte
+abbrev pub textMost : ℕ
+textMost = setUpMost + lineMost * (mostBytes - pairsPlace)
+
+-- what is written to a place of room bytes: the script's text; nothing, where some script's text would not fit
+unfoldable pub written : List ℕ → ℕ → List ℕ
+written input room = cond (ltb room textMost) [] (scriptText input)
