@@ -1,9 +1,9 @@
 -- The steps of the loops over a run of blocks: what is left of a list of codes decides what RAM becomes.
 -- Assumes nothing.
-use Prim.Native.Nat.{ℕ, zero, suc, _+_, _-_, _≤_, _<_}
-use mathlib.Core.Path.{_≡_, refl, _∙_}
+use Prim.Native.Nat.{ℕ, suc, _+_, _-_, _≤_, _<_}
+use mathlib.Core.Path.{_≡_, sym, _∙_}
 use mathlib.Core.Bool.{true, false}
-use mathlib.Core.List.{List, [], _∷_}
+use mathlib.Core.List.{List, _∷_}
 use native.Mathlib.Decide.{ℕ-discrete}
 use native.Mathlib.Omega.{arith}
 use mathlib.Core.Logic.{_≢_}
@@ -38,23 +38,29 @@ module _ (bot : RamByte) (ram : List ℕ) (k n later : ℕ) where
   unfolding setCodes
   run-end i h = let none : n - i ≡ 0 = omega arith in rw none
 
--- ---- counting a segment of domain d from block k on, n blocks counted
+-- ---- counting a segment of domain d from block k on: total blocks, of which n are counted, and the next has code read
 
-module _ (c : Config) (ram : List ℕ) (d k n end : ℕ) where
-  pub count-next : k + n < end → codeOf (c .bot) ram (k + n) ≡ laterCode d
-      → n + continued c ram d (k + n) (end - (k + n)) ≡ n + 1 + continued c ram d (k + (n + 1)) (end - (k + (n + 1)))
-  count-next h e =
+module _ (c : Config) (ram : List ℕ) (d k n end total : ℕ)
+    (so-far : total ≡ n + continued c ram d (k + n) (end - (k + n))) where
+  pub count-next : (read later : ℕ) → k + n < end → read ≡ codeOf (c .bot) ram (k + n) → later ≡ laterCode d → read ≡ later
+      → total ≡ n + 1 + continued c ram d (k + (n + 1)) (end - (k + (n + 1)))
+  count-next read later h r l e =
       let left : end - (k + n) ≡ suc (end - (k + (n + 1))) = omega arith in
       let next : suc (k + n) ≡ k + (n + 1) = omega arith in
-      rw (left, continued-more c ram d (k + n) (end - (k + (n + 1))) e, next) (omega arith)
+      so-far ∙ (rw (left, continued-more c ram d (k + n) (end - (k + (n + 1))) (sym r ∙ e ∙ l), next) (omega arith))
 
-  pub count-stop : k + n < end → codeOf (c .bot) ram (k + n) ≢ laterCode d → n + continued c ram d (k + n) (end - (k + n)) ≡ n
-  count-stop h e =
+  pub count-stop : (read later : ℕ) → k + n < end → read ≡ codeOf (c .bot) ram (k + n) → later ≡ laterCode d → read ≢ later → n ≡ total
+  count-stop read later h r l other =
       let left : end - (k + n) ≡ suc (end - (k + (n + 1))) = omega arith in
-      rw (left, continued-stop c ram d (k + n) (end - (k + (n + 1))) e) (omega arith)
+      let none : continued c ram d (k + n) (end - (k + n)) ≡ 0 =
+      rw left (continued-stop c ram d (k + n) (end - (k + (n + 1))) (λ e. other (r ∙ e ∙ sym l))) in
+      omega arith
 
-  pub count-end : end ≤ k + n → n + continued c ram d (k + n) (end - (k + n)) ≡ n
-  count-end h = let none : end - (k + n) ≡ 0 = omega arith in rw (none, continued-end c ram d (k + n)) (omega arith)
+  pub count-end : end ≤ k + n → n ≡ total
+  count-end h =
+      let left : end - (k + n) ≡ 0 = omega arith in
+      let none : continued c ram d (k + n) (end - (k + n)) ≡ 0 = rw left (continued-end c ram d (k + n)) in
+      omega arith
 
 pub count-first : (c : Config) (ram : List ℕ) (k : ℕ)
     → segmentBlocks c ram k ≡ 1 + continued c ram (ownerOf (codeOf (c .bot) ram k)) (k + 1) (safeBlock c - (k + 1))

@@ -1,11 +1,11 @@
 -- What a good configuration tells the map's code: its areas lie from bot on, its blocks are few, and their codes lie in RAM.
 -- Assumes nothing.
-use Prim.Native.Nat.{ℕ, _+_, _*_, _≤_, _<_}
+use Prim.Native.Nat.{ℕ, _*_, _≤_, _<_}
 use mathlib.Core.Path.{_≡_}
 use mathlib.Core.Bool.{true}
 use native.Mathlib.Omega.{arith}
 use Rattle.rules.specs.declared.Config.{Config}
-use Rattle.rules.specs.Memory.{ramBytes, blocks, safeBlock, mapBytes, perByte, mapByte}
+use Rattle.rules.specs.Memory.{ramBytes, safeBlock, mapBytes, perByte, mapByte}
 use Rattle.rules.specs.State.{goodConfig}
 use Rattle.laws.proofs.Good.{GoodConfig, goodConfig-facts, bot<heap, blocks≤ram, safeBlock≤blocks, place<heap, mapByte<heap}
 

@@ -1,27 +1,24 @@
 -- What malloc, free and change do at the place that their check found, by their rules; and that the codes they write lie in RAM.
 -- Assumes nothing.
 use Prim.Native.Nat.{ℕ, zero, suc, _+_, _-_, _<_, _≤_}
-use mathlib.Core.Path.{_≡_, refl, sym, ap, _∙_}
+use mathlib.Core.Path.{_≡_}
 use mathlib.Core.Bool.{true, _&&_}
 use mathlib.Core.List.{List, _∷_}
 use native.Mathlib.Omega.{arith}
-use lib.ListN.{length, replicate}
-use lib.Dec.{leb, ltb, eqb}
+use lib.ListN.{replicate}
+use lib.Dec.{leb, ltb}
 use borrow.Author.Tests.{leb-true, ltb-true, eq-eqb, ne-eqb, le-leb, lt-leb}
 use Rattle.rules.specs.declared.Block.{Block}
 use Rattle.rules.specs.declared.RamByte.{RamByte}
-use Rattle.rules.specs.declared.Config.{Config}
 use Rattle.rules.specs.declared.State.{State}
 use Rattle.rules.specs.declared.Outcome.{Outcome}
-use Rattle.rules.specs.declared.Answer.{Answer}
 use Rattle.rules.specs.declared.Answer.the-variants.{Done, Refused}
-use Rattle.rules.specs.declared.Refusal.{Refusal}
 use Rattle.rules.specs.declared.Refusal.the-variants.{DomainAbove}
-use Rattle.rules.specs.Memory.{ramBytes, startOf, blockOf, blocksFor, safeBlock, mapByte, codeOf, setCodes, startCode, laterCode, freeCode, startsSegment, segmentCodes, trusted}
+use Rattle.rules.specs.Memory.{ramBytes, startOf, blockOf, blocksFor, safeBlock, mapByte, setCodes, startCode, laterCode, freeCode, segmentCodes, trusted}
 use Rattle.rules.specs.State.{goodConfig, goodState}
-use Rattle.rules.specs.Answers.{Given, give, Gives}
-use Rattle.rules.specs.Malloc.{lowestRun, mallocOf}
-use Rattle.rules.specs.Free.{isSegment, segmentBlocks, freeOf, changeOf}
+use Rattle.rules.specs.Answers.{Given, Gives}
+use Rattle.rules.specs.Malloc.{mallocOf}
+use Rattle.rules.specs.Free.{segmentBlocks, freeOf, changeAnswer, changeOf}
 use Rattle.laws.proofs.Tests.{both}
 use Rattle.laws.proofs.Blocks.{block-lt, blocksFor-pos}
 use Rattle.laws.proofs.Good.{GoodState, goodConfig-true, goodState-facts, safeBlock≤blocks, block-fits}
@@ -38,18 +35,13 @@ config-good s h = goodConfig-true (s .config) (goodState-facts s h .config)
 pub gives-as : (r : Outcome) (ram : List ℕ) (g g′ : Given) → g ≡ g′ → Gives r ram g′ → Gives r ram g
 gives-as r ram g g′ e h = rw e h
 
--- a refusal leaves state and RAM as they were
-pub give-refused : (a : Answer) (r : Refusal) (s s′ : State) (ram ram′ : List ℕ) → a ≡ Refused r
-    → give a s ram s′ ram′ ≡ record { answer = Refused r; state = s; ram = ram }
-give-refused a r s s′ ram ram′ e = rw e
-
 -- ---- the codes of a run, as the map's code writes them
 
-pub segment-run : (d n : ℕ) → 0 < n → startCode d ∷ replicate (n - 1) (laterCode d) ≡ segmentCodes d n
+segment-run : (d n : ℕ) → 0 < n → startCode d ∷ replicate (n - 1) (laterCode d) ≡ segmentCodes d n
 segment-run d zero h = absurd (omega arith)
 segment-run d (suc n) h = let e : suc n - 1 ≡ n = omega arith in rw e
 
-pub free-run : (n : ℕ) → 0 < n → freeCode ∷ replicate (n - 1) freeCode ≡ replicate n freeCode
+free-run : (n : ℕ) → 0 < n → freeCode ∷ replicate (n - 1) freeCode ≡ replicate n freeCode
 free-run zero h = absurd (omega arith)
 free-run (suc n) h = let e : suc n - 1 ≡ n = omega arith in rw e
 
@@ -73,10 +65,11 @@ module _ (k : Block) (s : State) (ram : List ℕ) (size : ℕ) (room : Room k s 
       ≡ record {
         answer = Done (startOf (s .config .bot) (k .0));
         state = s;
-        ram = setCodes (s .config .bot) ram (k .0) (segmentCodes (s .domain) (blocksFor size));
+        ram = setCodes (s .config .bot) ram (k .0) (startCode (s .domain) ∷ replicate (blocksFor size - 1) (laterCode (s .domain)));
       }
   malloc-done =
-      simp (eq-eqb _ _ (room .sized), room .good, room .untrusted, ne-eqb size 0 (omega (arith, room .some)), room .lowest)
+      rw (segment-run (s .domain) (blocksFor size) (blocksFor-pos (room .some)))
+      (simp (eq-eqb _ _ (room .sized), room .good, room .untrusted, ne-eqb size 0 (omega (arith, room .some)), room .lowest))
 
 -- ---- free and change
 
@@ -106,18 +99,21 @@ module _ (k : Block) (s : State) (ram : List ℕ) (a : RamByte) (own : OwnSegmen
       ≡ record {
         answer = Done (segmentBlocks (s .config) ram (k .0));
         state = s;
-        ram = setCodes (s .config .bot) ram (k .0) (replicate (segmentBlocks (s .config) ram (k .0)) freeCode);
+        ram = setCodes (s .config .bot) ram (k .0) (freeCode ∷ replicate (segmentBlocks (s .config) ram (k .0) - 1) freeCode);
       }
-  free-done = rw (own .place) (simp (eq-eqb _ _ (own .sized), own .good, own .starts, eq-eqb _ _ (own .owned)))
+  free-done =
+      rw (free-run (segmentBlocks (s .config) ram (k .0)) (segment-some (s .config) ram (k .0)), own .place)
+      (simp (eq-eqb _ _ (own .sized), own .good, own .starts, eq-eqb _ _ (own .owned)))
 
   pub change-done : (d : ℕ) → d < trusted → changeOf s ram a d
       ≡ record {
         answer = Done (segmentBlocks (s .config) ram (k .0));
         state = s;
-        ram = setCodes (s .config .bot) ram (k .0) (segmentCodes d (segmentBlocks (s .config) ram (k .0)));
+        ram = setCodes (s .config .bot) ram (k .0) (startCode d ∷ replicate (segmentBlocks (s .config) ram (k .0) - 1) (laterCode d));
       }
   change-done d h =
-      rw (own .place) (simp (eq-eqb _ _ (own .sized), own .good, own .starts, eq-eqb _ _ (own .owned), lt-leb trusted d h))
+      rw (segment-run d (segmentBlocks (s .config) ram (k .0)) (segment-some (s .config) ram (k .0)), own .place)
+      (simp (eq-eqb _ _ (own .sized), own .good, own .starts, eq-eqb _ _ (own .owned), lt-leb trusted d h))
 
-  pub change-above : (d : ℕ) → trusted ≤ d → changeOf s ram a d ≡ record { answer = Refused DomainAbove; state = s; ram = ram }
+  pub change-above : (d : ℕ) → trusted ≤ d → Refused DomainAbove ≡ changeAnswer s ram a d
   change-above d h = simp (eq-eqb _ _ (own .sized), own .good, own .starts, eq-eqb _ _ (own .owned), le-leb trusted d h)

@@ -155,15 +155,10 @@ pub fn malloc(state: State, ram: &mut [u8], size: u16) -> Outcome
     match place {
         Place::At(k) => {
             let config = state.config;
-            let d = state.domain;
-            map::set_run(
-                config.bot,
-                ram,
-                k,
-                address::blocks_for(size),
-                map::start_code(d),
-                map::later_code(d),
-            );
+            let n = address::blocks_for(size);
+            let first = map::start_code(state.domain);
+            let later = map::later_code(state.domain);
+            map::set_run(config.bot, ram, k, n, first, later);
             let start = address::start_of(config.bot, k);
             Outcome {
                 answer: Answer::Done(start.0),
@@ -185,14 +180,8 @@ pub fn free(state: State, ram: &mut [u8], address: RamByte) -> Outcome
         Place::At(k) => {
             let config = state.config;
             let freed = map::segment_blocks(config, ram, k);
-            map::set_run(
-                config.bot,
-                ram,
-                k,
-                freed,
-                map::free_code(),
-                map::free_code(),
-            );
+            let code = map::free_code();
+            map::set_run(config.bot, ram, k, freed, code, code);
             Outcome {
                 answer: Answer::Done(freed),
                 state,
@@ -219,14 +208,9 @@ pub fn change(state: State, ram: &mut [u8], address: RamByte, domain: u8) -> Out
             }
             let config = state.config;
             let changed = map::segment_blocks(config, ram, k);
-            map::set_run(
-                config.bot,
-                ram,
-                k,
-                changed,
-                map::start_code(domain),
-                map::later_code(domain),
-            );
+            let first = map::start_code(domain);
+            let later = map::later_code(domain);
+            map::set_run(config.bot, ram, k, changed, first, later);
             Outcome {
                 answer: Answer::Done(changed),
                 state,

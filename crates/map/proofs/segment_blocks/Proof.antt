@@ -1,6 +1,6 @@
 -- `map::segment_blocks` meets its contract. Assumes nothing.
 use Prim.Native.Nat.{_+_, _-_, _≤_}
-use mathlib.Core.Path.{_≡_, sym, ap, _∙_}
+use mathlib.Core.Path.{_≡_, ap}
 use native.Mathlib.Omega.{arith}
 use Rattle.rules.specs.declared.Block.{Block}
 use Rattle.rules.specs.Memory.{ramBytes, safeBlock, codeOf, laterCode, ownerOf}
@@ -57,8 +57,7 @@ code-of-requires-2 c κs = (c .before .before .before .before .before .before .b
 
 returns : tie.Need-returns Inv-loop μ-loop
 returns c =
-    let read : c .before .code-of2 .result ≡ codeOf (c .before .before .before .before .before .before .before .before .before .before .before .before .args .config .bot) (c .before .before .before .before .before .before .before .before .before .before .before .before .args .ram .now) (c .before .before .before .before .before .before .before .before .before .before .before .before .args .k .0 + c .before .before .before .before .before .before .loop .n) = rw (c .before .before .further .ensures) at (c .before .code-of2 .ensures) in
-    sym (c .before .before .before .before .before .before .loop .inv .5 ∙ count-stop _ _ _ _ _ _ (omega arith) (λ e. c .if2 .taken (read ∙ e ∙ sym (c .before .before .before .before .before .before .loop .inv .4))))
+    count-stop _ _ _ _ _ _ _ (c .before .before .before .before .before .before .loop .inv .5) _ _ (omega arith) (rw (c .before .before .further .ensures) at (c .before .code-of2 .ensures)) (c .before .before .before .before .before .before .loop .inv .4) (c .if2 .taken)
 
 add-n : tie.Need-add-n Inv-loop μ-loop
 add-n c = search needs
@@ -68,12 +67,17 @@ loop-less c = search needs
 
 loop-again : tie.Need-loop-again Inv-loop μ-loop
 loop-again c =
-    let read : c .before .code-of2 .result ≡ codeOf (c .before .before .before .before .before .before .before .before .before .before .before .before .args .config .bot) (c .before .before .before .before .before .before .before .before .before .before .before .before .args .ram .now) (c .before .before .before .before .before .before .before .before .before .before .before .before .args .k .0 + c .before .before .before .before .before .before .loop .n) = rw (c .before .before .further .ensures) at (c .before .code-of2 .ensures) in
-    let inv = c .before .before .before .before .before .before .loop .inv in
-    (inv .0, inv .1, omega arith, omega arith, inv .4, inv .5 ∙ count-next _ _ _ _ _ _ (omega arith) (sym read ∙ c .if2 .left ∙ inv .4))
+    let inv = c .before .before .before .before .before .before .loop .inv in (
+      inv .0,
+      inv .1,
+      omega arith,
+      omega arith,
+      inv .4,
+      count-next _ _ _ _ _ _ _ (inv .5) _ _ (omega arith) (rw (c .before .before .further .ensures) at (c .before .code-of2 .ensures)) (inv .4) (c .if2 .left),
+    )
 
 returns-2 : tie.Need-returns-2 Inv-loop μ-loop
-returns-2 c = sym (c .before .before .before .loop .inv .5 ∙ count-end _ _ _ _ _ _ (omega arith))
+returns-2 c = count-end _ _ _ _ _ _ _ (c .before .before .before .loop .inv .5) (omega arith)
 
 pub segment-blocks-spec : {M : Type 1} → statement M
 segment-blocks-spec =

@@ -1,10 +1,9 @@
 -- `map::set_up_map` meets its contract. Assumes nothing.
 use Prim.Native.Nat.{_+_, _-_, _*_, _%_, _<_, _≤_}
 use native.Mathlib.Nat.{sub-zero}
-use mathlib.Core.Path.{_≡_, refl, sym, ap, _∙_}
+use mathlib.Core.Path.{_≡_, refl, sym, _∙_}
 use native.Mathlib.Omega.{arith}
 use lib.ListN.{length, set}
-use Rattle.rules.specs.declared.Block.{Block}
 use Rattle.rules.specs.Memory.{radix, blocks, mapBytes, perByte, setCode, setCodes}
 use Rattle.rules.specs.SetUp.{setUpCode, setUpCodes, setUpRam}
 use Rattle.laws.proofs.Good.{goodConfig-facts, blocks≤ram}

@@ -1,11 +1,11 @@
 -- `runtime::change` meets its contract. Assumes nothing.
-use mathlib.Core.Path.{refl, ap, _∙_}
+use mathlib.Core.Path.{refl, sym, ap}
 use native.Mathlib.Omega.{arith}
 use Rattle.rules.specs.declared.Answer.the-variants.{Done}
-use Rattle.rules.specs.Memory.{setCodes}
+use Rattle.laws.proofs.Answers.{gives-refused}
 use Rattle.laws.proofs.Codes.{startCode-lt, laterCode-lt}
 use Rattle.laws.proofs.Segments.{segment-some}
-use Rattle.runtime.proofs.Acts.{config-good, gives-as, give-refused, segment-run, own-before, own-codes, change-done, change-above}
+use Rattle.runtime.proofs.Acts.{config-good, gives-as, own-before, own-codes, change-done, change-above}
 use borrow.Author.Needs.{needs}
 use Rattle.runtime.proofs.change.Statement.{statement}
 use Rattle.runtime.proofs.change.Tie as tie
@@ -21,7 +21,7 @@ same-length c = search needs
 
 returns : tie.Need-returns
 returns c =
-    gives-as _ _ _ _ (change-above _ _ _ _ (rw (c .before .before .place .given .1) at (c .before .before .before .before .segment-at .ensures)) _ (c .if1 .taken)) (refl, refl, refl)
+    gives-refused _ _ _ _ _ _ (change-above _ _ _ _ (rw (c .before .before .place .given .1) at (c .before .before .before .before .segment-at .ensures)) _ (c .if1 .taken)) _ refl
 
 segment-blocks-requires : tie.Need-segment-blocks-requires
 segment-blocks-requires c κs =
@@ -37,7 +37,7 @@ later-code-requires c κs = search needs
 set-run-requires : tie.Need-set-run-requires
 set-run-requires c κs =
     let own = rw (c .before .before .before .before .before .before .before .before .place .given .1) at (c .before .before .before .before .before .before .before .before .before .before .segment-at .ensures) in
-    rw (c .before .before .before .segment-blocks .ensures, c .before .start-code .ensures, c .later-code .ensures) (
+    rw (c .before .before .before .segment-blocks .ensures, c .before .before .start-code .ensures, c .before .later-code .ensures) (
       own .sized,
       (segment-some _ _ _, (own-codes _ _ _ _ own, (startCode-lt _ (omega (arith, c .before .before .before .before .before .before .if1 .left)), laterCode-lt _ (omega (arith, c .before .before .before .before .before .before .if1 .left))))),
     )
@@ -50,18 +50,19 @@ same-length-2 c = search needs
 
 returns-2 : tie.Need-returns-2
 returns-2 c =
-    let own = rw (c .before .before .before .before .before .before .before .before .before .before .before .place .given .1) at (c .before .before .before .before .before .before .before .before .before .before .before .before .before .segment-at .ensures) in
-    let wrote = rw (c .before .before .before .before .before .before .segment-blocks .ensures, c .before .before .before .before .start-code .ensures, c .before .before .before .later-code .ensures) at (c .before .before .set-run .ensures) in
-    gives-as _ _ _ _ (change-done _ _ _ _ own _ (c .before .before .before .before .before .before .before .before .before .if1 .left))
-    (ap Done (c .before .before .before .before .before .before .segment-blocks .ensures), refl, wrote ∙ ap (setCodes _ _ _) (segment-run _ _ (segment-some _ _ _)))
+    gives-as _ _ _ _ (change-done _ _ _ _ (rw (c .before .before .before .before .before .before .before .before .before .before .before .place .given .1) at (c .before .before .before .before .before .before .before .before .before .before .before .before .before .segment-at .ensures)) _ (c .before .before .before .before .before .before .before .before .before .if1 .left)) (
+      ap Done (c .before .before .before .before .before .before .segment-blocks .ensures),
+      refl,
+      rw (c .before .before .before .before .before .before .segment-blocks .ensures, c .before .before .before .before .before .start-code .ensures, c .before .before .before .before .later-code .ensures) at (c .before .before .set-run .ensures),
+    )
 
 same-length-3 : tie.Need-same-length-3
 same-length-3 c = search needs
 
 returns-3 : tie.Need-returns-3
 returns-3 c =
-    gives-as _ _ _ _
-    (give-refused _ _ _ _ _ _ ((rw (c .before .place2 .given .1) at (c .before .before .before .segment-at .ensures)) .1 (c .before .before .before .before .before .before .args .domain))) (refl, refl, refl)
+    gives-refused _ _ _ _ _ _
+    (sym ((rw (c .before .place2 .given .1) at (c .before .before .before .segment-at .ensures)) .1 (c .before .before .before .before .before .before .args .domain))) _ refl
 
 pub change-spec : {M : Type 1} → statement M
 change-spec =
