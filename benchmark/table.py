@@ -1,0 +1,88 @@
+#!/usr/bin/env python3
+"""The reading and the laying out for ./bench.
+
+    table.py callgrind FILE     the instructions in each dump FILE.1, FILE.2, ..
+    table.py emulator ADDRESS   the same from the emulator's log on standard
+                                input: one line for each instruction; ADDRESS
+                                is where the mark between two cases stands
+    table.py table FOLDER TEXT  the table, in markdown
+    table.py write PAGE TABLE   puts it between the page's two marks
+"""
+import os
+import re
+import sys
+
+
+def callgrind(file):
+    number = 1
+    while os.path.exists("%s.%d" % (file, number)):
+        with open("%s.%d" % (file, number), encoding="utf-8") as dump:
+            print(re.search(r"^(?:totals|summary): (\d+)", dump.read(), re.M).group(1))
+        number += 1
+
+
+def emulator(address):
+    mark = b"/%016x/" % int(address, 16)
+    count = 0
+    for line in sys.stdin.buffer:
+        if line.startswith(b"Trace "):
+            count += 1
+            if mark in line:
+                print(count)
+                count = 0
+
+
+def read(folder, name):
+    with open(os.path.join(folder, name), encoding="utf-8") as text:
+        return text.read().splitlines()
+
+
+def per_call(folder, subject, repeats=(10, 30)):
+    few, many = ([int(n) for n in read(folder, "%s.%d" % (subject, r))] for r in repeats)
+    return [(b - a) / (repeats[1] - repeats[0]) for a, b in zip(few, many)]
+
+
+def ratio(ours, theirs):
+    return "%.2f" % (ours / theirs) if theirs > 0 else "-"
+
+
+def table(folder, about):
+    cases = [line.split("\t") for line in read(folder, "cases")]
+    ours, theirs, loop = (per_call(folder, s) for s in ("library", "plain", "nothing"))
+    if not len(cases) == len(ours) == len(theirs) == len(loop):
+        sys.exit("table.py: %d cases, but %d, %d and %d counts" % (len(cases), len(ours), len(theirs), len(loop)))
+    times = None
+    if os.path.exists(os.path.join(folder, "time")):
+        times = [[float(n) for n in line.split()] for line in read(folder, "time")]
+    print("C compiler: %s. Instructions%s of one call, without the loop around it." % (about, " and nanoseconds" if times else ""))
+    print()
+    print("| function | case | answer | ours | C | ratio |" + (" ours, ns | C, ns | ratio |" if times else ""))
+    print("|---|---|--:|--:|--:|--:|" + ("--:|--:|--:|" if times else ""))
+    above = []
+    for i, (function, what, number) in enumerate(cases):
+        a, b = ours[i] - loop[i], theirs[i] - loop[i]
+        line = "| %s | %s | %s | %g | %g | %s |" % (function, what, number, a, b, ratio(a, b))
+        if a > b:
+            above.append("%s (%s)" % (function, what))
+        if times:
+            x, y = times[i][0] - times[i][2], times[i][1] - times[i][2]
+            line += " %.1f | %.1f | %s |" % (x, y, ratio(x, y))
+        print(line)
+    print()
+    print("%d cases; %d with more instructions than the C%s" % (len(cases), len(above), ": " + "; ".join(above) if above else ""))
+
+
+def write(page, made):
+    with open(page, encoding="utf-8") as text:
+        before, _, rest = text.read().partition("<!-- made by ./bench --write -->\n")
+    _, end, after = rest.partition("<!-- end of what ./bench makes -->\n")
+    if not end:
+        sys.exit("table.py: %s has not both marks" % page)
+    with open(made, encoding="utf-8") as text:
+        lines = text.read()
+    with open(page, "w", encoding="utf-8") as text:
+        text.write(before + "<!-- made by ./bench --write -->\n" + lines + end + after)
+
+
+if __name__ == "__main__":
+    {"callgrind": callgrind, "emulator": emulator, "table": table, "write": write}[sys.argv[1]](*sys.argv[2:])
