@@ -39,10 +39,10 @@ fn complain(words: &[u8]) {
 }
 
 // A place for the text of any script. The contract gives only its length.
-fn text_place() -> [u8; 2357586]
+fn text_place() -> [u8; script::MOST_TEXT]
     ensures { λ r. ⌜ 2357586 ≡ length r ⌝ }
 {
-    [0; 2357586]
+    [0; script::MOST_TEXT]
 }
 
 // The text of a script, written at once.

@@ -1,7 +1,7 @@
--- What a run writes, by its tests.
+-- What a run prints, by its tests.
 -- Assumes nothing.
 use Prim.Native.Nat.{ℕ, _+_, _≤_, _<_}
-use mathlib.Core.Path.{_≡_, ap, subst, _∙_}
+use mathlib.Core.Path.{_≡_, sym, ap, subst, _∙_}
 use mathlib.Core.Logic.{_≢_}
 use mathlib.Core.Bool.{Bool, true, false, cond}
 use mathlib.Core.List.{List, [], _++_, append-nil}
@@ -17,35 +17,47 @@ use Rattle.rules.specs.Answers.{Given, Gives, numberOf}
 use Rattle.rules.specs.SetUp.{setUpOf}
 use Rattle.rules.specs.Script.{mostBytes, configAt, tableAt, headerGood, operationsPlace, longText, badText, setUpText, runText, scriptText}
 use Rattle.script.specs.Text.{Wrote, handed}
-use Rattle.script.specs.Run.{linesAt, textMost, written}
+use Rattle.script.specs.Run.{linesAt, textMost, printed, Printed}
 
--- a text written from the start of a lent place is what stands there, and behind it stands what stood there
-pub wrote-first : {l m text wanted : List ℕ} {r : ℕ} → wanted ≡ text → Wrote l m 0 text r → (r ≡ length wanted) × (m ≡ wanted ++ drop r l)
-wrote-first {l} {m} {text} {wanted} {r} e w =
+-- what was written from the start of a place is printed there
+pub printed-first : {l m text wanted : List ℕ} {r : ℕ} → wanted ≡ text → Wrote l m 0 text r → Printed l m wanted r
+printed-first {l} {m} {text} {wanted} {r} e w =
     let h : 0 + length text ≤ length l = omega (arith, w .place, w .room) in
     let f : 0 + length text ≡ r = omega (arith, w .place) in
     rw e (omega arith, w .bytes ∙ sets-eq text l 0 h ∙ ap (λ (k : ℕ). text ++ drop k l) f)
 
+-- no second answer meets the contract of a run
+pub printed-once : (l m m′ text : List ℕ) (r r′ : ℕ) → Printed l m text r → Printed l m′ text r′ → (r ≡ r′) × (m ≡ m′)
+printed-once l m m′ text r r′ (e, f) (e′, f′) =
+    let same : r ≡ r′ = e ∙ sym e′ in
+    (same, f ∙ ap (λ (k : ℕ). text ++ drop k l) same ∙ sym f′)
+
+-- ---- the tests of a run
+
 module _ (input : List ℕ) (room : ℕ) where
-  pub written-none : room < textMost → written input room ≡ []
-  unfolding written
-  written-none h = rw (lt-ltb room textMost h)
+  pub printed-none : room < textMost → printed input room ≡ []
+  unfolding printed
+  printed-none h = rw (lt-ltb room textMost h)
 
-  module _ (h : textMost ≤ room) where
-    pub written-long : mostBytes < length input → written input room ≡ longText
-    unfolding written scriptText
-    written-long l = rw (le-ltb room textMost h, lt-ltb mostBytes (length input) l)
+  pub printed-text : textMost ≤ room → printed input room ≡ scriptText input
+  unfolding printed
+  printed-text h = rw (le-ltb room textMost h)
 
-    module _ (l : length input ≤ mostBytes) where
-      by-header : written input room ≡ cond (headerGood input) (runText input) badText
-      unfolding written scriptText
-      by-header = rw (le-ltb room textMost h, le-ltb mostBytes (length input) l)
+module _ (input : List ℕ) where
+  pub text-long : mostBytes < length input → scriptText input ≡ longText
+  unfolding scriptText
+  text-long l = rw (lt-ltb mostBytes (length input) l)
 
-      pub written-bad : headerGood input ≡ false → written input room ≡ badText
-      written-bad b = by-header ∙ ap (λ (t : Bool). cond t (runText input) badText) b
+  module _ (l : length input ≤ mostBytes) where
+    by-header : scriptText input ≡ cond (headerGood input) (runText input) badText
+    unfolding scriptText
+    by-header = rw (le-ltb mostBytes (length input) l)
 
-      pub written-good : headerGood input ≡ true → written input room ≡ runText input
-      written-good b = by-header ∙ ap (λ (t : Bool). cond t (runText input) badText) b
+    pub text-bad : headerGood input ≡ false → scriptText input ≡ badText
+    text-bad b = by-header ∙ ap (λ (t : Bool). cond t (runText input) badText) b
+
+    pub text-good : headerGood input ≡ true → scriptText input ≡ runText input
+    text-good b = by-header ∙ ap (λ (t : Bool). cond t (runText input) badText) b
 
 -- the text of a run whose set-up gave g and handed back o
 module _ (g : Given) (lines : List ℕ) (o : Outcome) (same : o .answer ≡ g .answer) where

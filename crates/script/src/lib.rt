@@ -1,12 +1,10 @@
 // Section 7: a script, from the bytes that are read to the text that is printed.
-ghost use mathlib.Core.Path.{_≡_};
-ghost use mathlib.Core.List.{_++_};
 ghost use Prim.Native.Nat.{_+_, _*_, _-_, _≤_};
-ghost use lib.ListN.{length, drop};
+ghost use lib.ListN.{length};
 ghost use Rattle.rules.specs.Answers.{Gives};
 ghost use Rattle.rules.specs.Script.{mostBytes, pairsPlace, operationsPlace, operationOf};
 ghost use Rattle.script.specs.Text.{Wrote, lineMost};
-ghost use Rattle.script.specs.Run.{linesAt, written};
+ghost use Rattle.script.specs.Run.{linesAt, printed, Printed};
 
 mod header;
 mod incoming;
@@ -24,7 +22,7 @@ const TABLE_WORDS: usize = header::TABLE_WORDS as usize;
 
 const MOST_BYTES: usize = 65536;
 // Enough for the text of any script: the lines of set-up, and a line for each byte behind the header.
-const MOST_TEXT: usize = 2357586;
+pub const MOST_TEXT: usize = 2357586;
 
 // An operation, carried out.
 fn carry_out(state: State, ram: &mut [u8], table: &[u16], op: Operation) -> Outcome
@@ -79,10 +77,10 @@ fn put_lines(
     }
 }
 
-// Writes to out what the program prints for this input, and answers how many bytes that is. RAM and the jump table are its own. An out
-// that might be too small for some script is left as it is.
+// Writes to out what the program prints for this input, and answers how many bytes that is. RAM and the jump table are its own. Where out
+// has fewer than MOST_TEXT bytes it writes nothing.
 pub fn run(input: &[u8], out: &mut [u8]) -> usize
-    ensures { λ r. ⌜ (r ≡ length (written (now (input .entry)) (length (now (out .entry))))) × (now (out .exit) ≡ written (now (input .entry)) (length (now (out .entry))) ++ drop r (now (out .entry))) ⌝ }
+    ensures { λ r. ⌜ Printed (now (out .entry)) (now (out .exit)) (printed (now (input .entry)) (length (now (out .entry)))) r ⌝ }
 {
     if out.len() < MOST_TEXT {
         return 0;

@@ -7,12 +7,12 @@ use borrow.Author.Needs.{needs}
 use Rattle.script.specs.Text.{handed, setUpMost}
 use Rattle.script.proofs.Headers.{header-facts}
 use Rattle.script.proofs.Texts.{wrote-then, step, set-up-most}
-use Rattle.script.proofs.Runs.{wrote-first, written-none, written-long, written-bad, written-good, run-refused, run-done}
+use Rattle.script.proofs.Runs.{printed-first, printed-none, printed-text, text-long, text-bad, text-good, run-refused, run-done}
 use Rattle.script.proofs.run.Statement.{statement}
 use Rattle.script.proofs.run.Tie as tie
 
 returns : tie.Need-returns
-returns c = rw (written-none (c .before .before .before .args .input .now) (length (c .before .before .before .args .out .now)) (c .if1 .taken)) (refl, refl)
+returns c = rw (printed-none (c .before .before .before .args .input .now) (length (c .before .before .before .args .out .now)) (c .if1 .taken)) (refl, refl)
 
 slice-aggregate-put-text : tie.Need-slice-aggregate-put-text
 slice-aggregate-put-text c = search needs
@@ -25,8 +25,9 @@ same-length c = search needs
 
 returns-2 : tie.Need-returns-2
 returns-2 c =
-    wrote-first
-    (written-long (c .before .before .before .before .before .before .before .before .before .args .input .now) (length (c .before .before .before .before .before .before .before .before .before .args .out .now)) (c .before .before .before .before .before .before .if1 .left) (c .before .before .before .before .before .if2 .taken))
+    let input = c .before .before .before .before .before .before .before .before .before .args .input .now in
+    printed-first
+    (printed-text input (length (c .before .before .before .before .before .before .before .before .before .args .out .now)) (c .before .before .before .before .before .before .if1 .left) ∙ text-long input (c .before .before .before .before .before .if2 .taken))
     (c .before .before .put-text .ensures)
 
 header-good-requires : tie.Need-header-good-requires
@@ -43,8 +44,10 @@ same-length-2 c = search needs
 
 returns-3 : tie.Need-returns-3
 returns-3 c =
-    wrote-first
-    (written-bad (c .before .before .before .before .before .before .before .before .before .before .before .args .input .now) (length (c .before .before .before .before .before .before .before .before .before .before .before .args .out .now)) (c .before .before .before .before .before .before .before .before .if1 .left) (c .before .before .before .before .before .before .before .if2 .left) (sym (c .before .before .before .before .before .before .header-good .ensures) ∙ not-true _ (c .before .before .before .before .before .if3 .taken)))
+    let input = c .before .before .before .before .before .before .before .before .before .before .before .args .input .now in
+    printed-first
+    (printed-text input (length (c .before .before .before .before .before .before .before .before .before .before .before .args .out .now)) (c .before .before .before .before .before .before .before .before .if1 .left)
+    ∙ text-bad input (c .before .before .before .before .before .before .before .if2 .left) (sym (c .before .before .before .before .before .before .header-good .ensures) ∙ not-true _ (c .before .before .before .before .before .if3 .taken)))
     (c .before .before .put-text2 .ensures)
 
 slice-aggregate-fill-table : tie.Need-slice-aggregate-fill-table
@@ -73,9 +76,11 @@ same-length-3 c = search needs
 
 returns-4 : tie.Need-returns-4
 returns-4 c =
-    wrote-first
-    (written-good (c .before .before .before .before .before .before .before .before .before .before .before .before .before .before .before .before .before .before .before .args .input .now) (length (c .before .before .before .before .before .before .before .before .before .before .before .before .before .before .before .before .before .before .before .args .out .now)) (c .before .before .before .before .before .before .before .before .before .before .before .before .before .before .before .before .if1 .left) (c .before .before .before .before .before .before .before .before .before .before .before .before .before .before .before .if2 .left) (sym (c .before .before .before .before .before .before .before .before .before .before .before .before .before .before .header-good .ensures) ∙ not-false _ (c .before .before .before .before .before .before .before .before .before .before .before .before .before .if3 .left))
-    ∙ run-refused (c .before .before .before .before .before .before .before .before .before .before .before .before .before .before .before .before .before .before .before .args .input .now) (c .before .before .before .before .before .before .before .set-up .result) (c .before .before .before .before .before .before .before .before .before .config-at .ensures) (c .before .before .before .before .before .before .before .set-up .ensures) (λ e. c .if4 .taken (c .before .number-of .ensures ∙ e)))
+    let input = c .before .before .before .before .before .before .before .before .before .before .before .before .before .before .before .before .before .before .before .args .input .now in
+    printed-first
+    (printed-text input (length (c .before .before .before .before .before .before .before .before .before .before .before .before .before .before .before .before .before .before .before .args .out .now)) (c .before .before .before .before .before .before .before .before .before .before .before .before .before .before .before .before .if1 .left)
+    ∙ text-good input (c .before .before .before .before .before .before .before .before .before .before .before .before .before .before .before .if2 .left) (sym (c .before .before .before .before .before .before .before .before .before .before .before .before .before .before .header-good .ensures) ∙ not-false _ (c .before .before .before .before .before .before .before .before .before .before .before .before .before .if3 .left))
+    ∙ run-refused input (c .before .before .before .before .before .before .before .set-up .result) (c .before .before .before .before .before .before .before .before .before .config-at .ensures) (c .before .before .before .before .before .before .before .set-up .ensures) (λ e. c .if4 .taken (c .before .number-of .ensures ∙ e)))
     (c .before .before .before .before .put-set-up .ensures)
 
 slice-aggregate-put-lines : tie.Need-slice-aggregate-put-lines
@@ -95,9 +100,11 @@ same-length-4 c = search needs
 
 returns-5 : tie.Need-returns-5
 returns-5 c =
-    wrote-first
-    (written-good (c .before .before .before .before .before .before .before .before .before .before .before .before .before .before .before .before .before .before .before .before .before .before .before .before .before .before .before .args .input .now) (length (c .before .before .before .before .before .before .before .before .before .before .before .before .before .before .before .before .before .before .before .before .before .before .before .before .before .before .before .args .out .now)) (c .before .before .before .before .before .before .before .before .before .before .before .before .before .before .before .before .before .before .before .before .before .before .before .before .if1 .left) (c .before .before .before .before .before .before .before .before .before .before .before .before .before .before .before .before .before .before .before .before .before .before .before .if2 .left) (sym (c .before .before .before .before .before .before .before .before .before .before .before .before .before .before .before .before .before .before .before .before .before .before .header-good .ensures) ∙ not-false _ (c .before .before .before .before .before .before .before .before .before .before .before .before .before .before .before .before .before .before .before .before .before .if3 .left))
-    ∙ run-done (c .before .before .before .before .before .before .before .before .before .before .before .before .before .before .before .before .before .before .before .before .before .before .before .before .before .before .before .args .input .now) (c .before .before .before .before .before .before .before .before .before .before .before .before .before .before .before .set-up .result) (c .before .before .before .before .before .before .before .before .before .before .before .before .before .before .before .before .before .config-at .ensures) (c .before .before .before .before .before .before .before .before .before .before .before .before .before .before .before .set-up .ensures) (sym (c .before .before .before .before .before .before .before .before .before .number-of .ensures) ∙ c .before .before .before .before .before .before .before .before .if4 .left) _ (c .before .before .before .before .before .before .before .before .before .before .before .before .before .before .before .before .before .before .before .fill-table .ensures))
+    let input = c .before .before .before .before .before .before .before .before .before .before .before .before .before .before .before .before .before .before .before .before .before .before .before .before .before .before .before .args .input .now in
+    printed-first
+    (printed-text input (length (c .before .before .before .before .before .before .before .before .before .before .before .before .before .before .before .before .before .before .before .before .before .before .before .before .before .before .before .args .out .now)) (c .before .before .before .before .before .before .before .before .before .before .before .before .before .before .before .before .before .before .before .before .before .before .before .before .if1 .left)
+    ∙ text-good input (c .before .before .before .before .before .before .before .before .before .before .before .before .before .before .before .before .before .before .before .before .before .before .before .if2 .left) (sym (c .before .before .before .before .before .before .before .before .before .before .before .before .before .before .before .before .before .before .before .before .before .before .header-good .ensures) ∙ not-false _ (c .before .before .before .before .before .before .before .before .before .before .before .before .before .before .before .before .before .before .before .before .before .if3 .left))
+    ∙ run-done input (c .before .before .before .before .before .before .before .before .before .before .before .before .before .before .before .set-up .result) (c .before .before .before .before .before .before .before .before .before .before .before .before .before .before .before .before .before .config-at .ensures) (c .before .before .before .before .before .before .before .before .before .before .before .before .before .before .before .set-up .ensures) (sym (c .before .before .before .before .before .before .before .before .before .number-of .ensures) ∙ c .before .before .before .before .before .before .before .before .if4 .left) _ (c .before .before .before .before .before .before .before .before .before .before .before .before .before .before .before .before .before .before .before .fill-table .ensures))
     (wrote-then (c .before .before .before .before .before .before .before .before .before .before .before .before .put-set-up .ensures) (c .before .before .before .put-lines .ensures))
 
 pub run-spec : {M : Type 1} → statement M
