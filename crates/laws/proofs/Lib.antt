@@ -12,3 +12,4 @@ pub mod Frames
 pub mod Parts
 pub mod Search
 pub mod Segments
+pub mod Slot
