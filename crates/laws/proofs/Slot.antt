@@ -4,10 +4,10 @@
 use Prim.Native.Nat.{ℕ, zero, suc, _+_, _*_, _<_, _≤_}
 use mathlib.Core.Path.{_≡_, refl, sym, ap, _∙_}
 use mathlib.Core.Bool.{true}
-use mathlib.Core.List.{List, [], _∷_, _++_, append-assoc}
+use mathlib.Core.List.{List, [], _∷_, _++_, append-assoc, append-nil}
 use native.Mathlib.Omega.{arith}
-use lib.ListN.{length, getD, drop, length-append, drop-of-length-le}
-use lib.Seq.{sets, take-append-seam, drop-cons, drop-drop, getD-drop, getD-append-add, sets-eq, drop-at}
+use lib.ListN.{length, getD, take, drop, length-append, drop-of-length-le}
+use lib.Seq.{sets, set-getD, take-at, drop-cons, drop-drop, getD-drop, getD-append-add, sets-eq, drop-at}
 use lib.Dec.{leb}
 use borrow.Author.Tests.{leb-true}
 use Rattle.rules.specs.declared.FlashWord.{FlashWord}
@@ -19,9 +19,10 @@ use Rattle.rules.specs.State.{goodState}
 use Rattle.rules.specs.Call.{low, high}
 use Rattle.rules.specs.Return.{wordAt}
 use Rattle.rules.specs.Script.{rangesAt}
-use Rattle.rules.specs.Slot.{slotBytes, rangesIn, boundIn, safepointerIn, domainIn, zeroIn, stateIn, wordBytes, rangesBytes, boundsBytes, slotOf, wordsAt}
+use Rattle.rules.specs.Slot.{slotBytes, rangesIn, boundIn, safepointerIn, domainIn, zeroIn, configIn, stateIn, wordBytes, rangesBytes, boundsBytes, slotOf, wordsAt}
 use Rattle.laws.proofs.Tests.{each}
 use Rattle.laws.proofs.Good.{GoodConfig, GoodState, goodState-facts}
+use Rattle.laws.proofs.Parts.{getD-sets-after}
 use Rattle.laws.proofs.Frames.{word-of-bytes, byte-at}
 
 -- ---- the two parts of a slot: the configuration, and what a call or a return changes with the byte 0 behind it
@@ -45,28 +46,17 @@ unfolding rangesBytes
 length-rangesBytes [] = refl
 length-rangesBytes (r ∷ rs) = omega (arith, length-rangesBytes rs)
 
+pub length-rangesAt : (bytes : List ℕ) (at n : ℕ) → length (rangesAt bytes at n) ≡ n
+unfolding rangesAt
+length-rangesAt bytes at zero = refl
+length-rangesAt bytes at (suc n) = ap suc (length-rangesAt bytes (at + 4) n)
+
 length-configBytes : (c : Config) → length (c .ranges) ≡ domains → length (configBytes c) ≡ boundIn
 length-configBytes c eight = omega (arith, length-rangesBytes (c .ranges))
 
 pub length-slotOf : (s : State) → length (s .config .ranges) ≡ domains → length (slotOf s) ≡ slotBytes
 length-slotOf s eight =
     rw (parts s, length-append (configBytes (s .config)) (behind s)) (omega (arith, length-configBytes (s .config) eight))
-
--- five bytes behind the first xs made others
-sets-behind : (xs ys vs zs : List ℕ) (n : ℕ) → length xs ≡ n → length ys ≡ length vs → sets (xs ++ (ys ++ zs)) n vs ≡ xs ++ (vs ++ zs)
-sets-behind xs ys vs zs n l m =
-    let e : length xs + length vs ≡ length (xs ++ ys) = omega (arith, length-append xs ys) in
-    let room : length xs + length vs ≤ length (xs ++ (ys ++ zs)) = omega (arith, length-append xs (ys ++ zs), length-append ys zs) in
-    let f : drop (length xs + length vs) (xs ++ (ys ++ zs)) ≡ zs =
-    rw (← append-assoc xs ys zs) (drop-at (xs ++ ys) zs (length xs + length vs) (omega arith)) in
-    rw (← l, sets-eq vs (xs ++ (ys ++ zs)) (length xs) room, take-append-seam xs (ys ++ zs), f, append-assoc xs vs zs)
-
--- "bound; safe pointer; domain": a call or a return changes these five bytes and no other
-pub slotOf-changed : (s s′ : State) → length (s .config .ranges) ≡ domains → s′ .config ≡ s .config
-    → slotOf s′ ≡ sets (slotOf s) boundIn (runBytes s′)
-slotOf-changed s s′ eight same =
-    rw (parts s, parts s′, same)
-    (sym (sets-behind (configBytes (s .config)) (runBytes s) (runBytes s′) (0 ∷ []) boundIn (length-configBytes (s .config) eight) refl))
 
 -- ---- unpacking a packed state
 
@@ -140,25 +130,43 @@ ranges-again l at (suc n) bytes h =
     let f : at + 2 + 2 ≡ at + 4 = omega arith in
     rw (word-again l at bytes (omega arith), word-again l (at + 2) bytes (omega arith), f, ranges-again l (at + 4) n bytes (omega arith), e)
 
--- packing what was unpacked, of any slot of 48 bytes whose last is 0
-pub slotOf-stateIn : (l : List ℕ) → length l ≡ slotBytes → Bytes l → getD l zeroIn 0 ≡ 0 → slotOf (stateIn l) ≡ l
-slotOf-stateIn l size bytes z =
-    let last : drop domainIn l ≡ getD l domainIn 0 ∷ 0 ∷ [] =
-    rw (drop-cons l domainIn 0 (omega arith), drop-cons l zeroIn 0 (omega arith), z, drop-of-length-le l {i = slotBytes} (omega arith)) in
-    let word : (at : ℕ) → at + 1 < slotBytes → drop at l ≡ wordBytes (wordAt l at) ++ drop (at + 2) l =
-    λ at h. word-again l at bytes (omega arith) in
-    rw (parts (stateIn l))
-    (sym
-    (rw (
-      word 2 (omega arith),
-      word 4 (omega arith),
-      word 6 (omega arith),
-      word 8 (omega arith),
-      ranges-again l rangesIn domains bytes (omega arith),
-      word boundIn (omega arith),
-      word safepointerIn (omega arith),
-      last,
-    ) at (word 0 (omega arith))))
+module _ (l : List ℕ) (size : length l ≡ slotBytes) (bytes : Bytes l) where
+  config-again : l ≡ configBytes (configIn l) ++ drop boundIn l
+  config-again =
+      let word : (at : ℕ) → at + 1 < slotBytes → drop at l ≡ wordBytes (wordAt l at) ++ drop (at + 2) l =
+      λ at h. word-again l at bytes (omega arith) in
+      rw (
+        word 2 (omega arith),
+        word 4 (omega arith),
+        word 6 (omega arith),
+        word 8 (omega arith),
+        ranges-again l rangesIn domains bytes (omega arith),
+      ) at (word 0 (omega arith))
+
+  -- a slot whose configuration stays: the bytes behind it are written, and no other
+  pub slotOf-over : (s′ : State) → s′ .config ≡ configIn l → slotOf s′ ≡ sets l boundIn (runBytes s′ ++ (0 ∷ []))
+  slotOf-over s′ same =
+      let front : length (configBytes (configIn l)) ≡ boundIn = length-configBytes (configIn l) (length-rangesAt l rangesIn domains) in
+      let e : take boundIn l ≡ configBytes (configIn l) =
+      ap (take boundIn) config-again ∙ take-at (configBytes (configIn l)) (drop boundIn l) boundIn front in
+      rw (parts s′, same, sets-eq (behind s′) l boundIn (omega arith), e, drop-of-length-le l {i = slotBytes} (omega arith))
+      (sym (append-nil (configBytes (configIn l) ++ behind s′)))
+
+  module _ (z : getD l zeroIn 0 ≡ 0) where
+    -- packing what was unpacked
+    pub slotOf-stateIn : slotOf (stateIn l) ≡ l
+    slotOf-stateIn =
+        let last : drop domainIn l ≡ getD l domainIn 0 ∷ 0 ∷ [] =
+        rw (drop-cons l domainIn 0 (omega arith), drop-cons l zeroIn 0 (omega arith), z, drop-of-length-le l {i = slotBytes} (omega arith)) in
+        rw (parts (stateIn l))
+        (sym (rw (word-again l boundIn bytes (omega arith), word-again l safepointerIn bytes (omega arith), last) at config-again))
+
+    -- a call or a return changes the bound, the safe pointer and the domain: these five bytes and no other
+    pub slotOf-changed : (s′ : State) → s′ .config ≡ configIn l → slotOf s′ ≡ sets l boundIn (runBytes s′)
+    slotOf-changed s′ same =
+        let written : List ℕ = sets l boundIn (runBytes s′) in
+        let still : getD written zeroIn 0 ≡ 0 = getD-sets-after l boundIn (runBytes s′) zeroIn 0 (omega arith) ∙ z in
+        slotOf-over s′ same ∙ (rw still at (set-getD written zeroIn 0))
 
 -- ---- the slot of a good state is of bytes
 

@@ -1,0 +1,3 @@
+// Document 02, Ask 1: set-up and the six operations, callable from C on numbers and byte slices.
+mod operands;
+mod slot;
