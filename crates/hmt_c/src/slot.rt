@@ -1,13 +1,15 @@
 // The slot: the configuration and the state read from it, the fresh state and what a call or a return changes written to it.
 ghost use mathlib.Core.Path.{_≡_};
-ghost use mathlib.Core.List.{_∷_};
+ghost use mathlib.Core.List.{[], _∷_, _++_};
 ghost use Prim.Native.Nat.{_+_, _<_};
 ghost use lib.ListN.{length};
 ghost use lib.Seq.{sets};
 ghost use Rattle.rules.specs.Code.{flashWord};
 ghost use Rattle.rules.specs.State.{ramByte};
+ghost use Rattle.rules.specs.Call.{low, high};
 ghost use Rattle.rules.specs.Return.{wordAt};
-ghost use Rattle.rules.specs.Slot.{slotBytes, configIn, stateIn};
+ghost use Rattle.rules.specs.Slot.{slotBytes, boundIn, configIn, stateIn};
+ghost use Rattle.laws.proofs.Slot.{runBytes};
 use rules::Config;
 use rules::FlashWord;
 use rules::RamByte;
@@ -75,4 +77,37 @@ pub fn state_in(slot: &[u8]) -> State
         bound: bound,
         safepointer: safepointer,
     }
+}
+
+fn low(n: u16) -> u8
+    ensures { λ r. ⌜ r ≡ low n ⌝ }
+{
+    (n % 256) as u8
+}
+
+fn high(n: u16) -> u8
+    ensures { λ r. ⌜ r ≡ high n ⌝ }
+{
+    (n / 256) as u8
+}
+
+// The bound, the safe pointer and the domain: five bytes, and no other.
+pub fn write_run(slot: &mut [u8], state: State)
+    requires { ⌜ length (now slot) ≡ slotBytes ⌝ }
+    ensures { λ _. ⌜ now (slot .exit) ≡ sets (now (slot .entry)) boundIn (runBytes state) ⌝ }
+{
+    slot[42] = low(state.bound.0);
+    slot[43] = high(state.bound.0);
+    slot[44] = low(state.safepointer.0);
+    slot[45] = high(state.safepointer.0);
+    slot[46] = state.domain;
+}
+
+// All that follows the configuration.
+pub fn write_behind(slot: &mut [u8], state: State)
+    requires { ⌜ length (now slot) ≡ slotBytes ⌝ }
+    ensures { λ _. ⌜ now (slot .exit) ≡ sets (now (slot .entry)) boundIn (runBytes state ++ (0 ∷ [])) ⌝ }
+{
+    write_run(slot, state);
+    slot[47] = 0;
 }
