@@ -13,3 +13,4 @@ pub mod Parts
 pub mod Search
 pub mod Segments
 pub mod Slot
+pub mod ToC
