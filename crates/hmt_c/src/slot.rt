@@ -8,13 +8,24 @@ ghost use Rattle.rules.specs.Code.{flashWord};
 ghost use Rattle.rules.specs.State.{ramByte};
 ghost use Rattle.rules.specs.Call.{low, high};
 ghost use Rattle.rules.specs.Return.{wordAt};
-ghost use Rattle.rules.specs.Slot.{slotBytes, boundIn, configIn, stateIn};
+ghost use Rattle.rules.specs.Slot.{slotBytes, boundIn, configIn, stateIn, packed};
 ghost use Rattle.laws.proofs.Slot.{runBytes};
+ghost use Rattle.laws.proofs.ToC.{after};
+use crate::answer::refused;
+use rules::Answer;
 use rules::Config;
 use rules::FlashWord;
+use rules::Outcome;
 use rules::RamByte;
 use rules::Range;
 use rules::State;
+
+pub fn word_at(bytes: &[u8], at: usize) -> u16
+    requires { ⌜ at + 1 < length (now bytes) ⌝ }
+    ensures { λ r. ⌜ r ≡ wordAt (now (bytes .entry)) at ⌝ }
+{
+    address::joined(bytes[at], bytes[at + 1])
+}
 
 fn ram_byte_at(slot: &[u8], at: usize) -> RamByte
     requires { ⌜ at + 1 < length (now slot) ⌝ }
@@ -92,7 +103,7 @@ fn high(n: u16) -> u8
 }
 
 // The bound, the safe pointer and the domain: five bytes, and no other.
-pub fn write_run(slot: &mut [u8], state: State)
+fn write_run(slot: &mut [u8], state: State)
     requires { ⌜ length (now slot) ≡ slotBytes ⌝ }
     ensures { λ _. ⌜ now (slot .exit) ≡ sets (now (slot .entry)) boundIn (runBytes state) ⌝ }
 {
@@ -103,11 +114,35 @@ pub fn write_run(slot: &mut [u8], state: State)
     slot[46] = state.domain;
 }
 
-// All that follows the configuration.
-pub fn write_behind(slot: &mut [u8], state: State)
+// What a call or a return gave, its answer as one number: written only when done.
+pub fn change(slot: &mut [u8], outcome: Outcome) -> u32
     requires { ⌜ length (now slot) ≡ slotBytes ⌝ }
-    ensures { λ _. ⌜ now (slot .exit) ≡ sets (now (slot .entry)) boundIn (runBytes state ++ (0 ∷ [])) ⌝ }
+    ensures { λ r. ⌜ (r ≡ packed (outcome .answer)) × (now (slot .exit) ≡ after (outcome .answer) (now (slot .entry)) (sets (now (slot .entry)) boundIn (runBytes (outcome .state)))) ⌝ }
 {
-    write_run(slot, state);
-    slot[47] = 0;
+    let answer = outcome.answer;
+    match answer {
+        Answer::Done(value) => {
+            let state = outcome.state;
+            write_run(slot, state);
+            return value as u32;
+        }
+        Answer::Refused(refusal) => return refused(refusal),
+    }
+}
+
+// What set-up gave: the configuration stands in the slot already.
+pub fn set_up(slot: &mut [u8], outcome: Outcome) -> u32
+    requires { ⌜ length (now slot) ≡ slotBytes ⌝ }
+    ensures { λ r. ⌜ (r ≡ packed (outcome .answer)) × (now (slot .exit) ≡ after (outcome .answer) (now (slot .entry)) (sets (now (slot .entry)) boundIn (runBytes (outcome .state) ++ (0 ∷ [])))) ⌝ }
+{
+    let answer = outcome.answer;
+    match answer {
+        Answer::Done(value) => {
+            let state = outcome.state;
+            write_run(slot, state);
+            slot[47] = 0;
+            return value as u32;
+        }
+        Answer::Refused(refusal) => return refused(refusal),
+    }
 }
