@@ -50,6 +50,10 @@ pub start-suc : (bot : RamByte) (k : ℕ) → startOf bot (suc k) ≡ startOf bo
 unfolding startOf
 start-suc bot k = omega (arith, suc-mul k blockBytes)
 
+pub start-add : (bot : RamByte) (k n : ℕ) → startOf bot (k + n) ≡ startOf bot k + n * blockBytes
+unfolding startOf
+start-add bot k n = omega arith
+
 pub start-mono : (bot : RamByte) {k j : ℕ} → k ≤ j → startOf bot k ≤ startOf bot j
 unfolding startOf
 start-mono bot h = omega (arith, mul-le-mul-right blockBytes h)

@@ -1,11 +1,13 @@
 -- The meaning of a code: free, the start of a segment of a domain, or a later block of one.
 -- Assumes nothing.
 use Prim.Native.Nat.{ℕ, zero, suc, _+_, _*_, _%_, _≤_, _<_}
-use mathlib.Core.Path.{_≡_, refl, sym}
+use mathlib.Core.Path.{_≡_, refl, sym, ap}
 use mathlib.Core.Logic.{_≢_}
 use mathlib.Core.Bool.{Bool, true, false, not, cond}
+use native.Mathlib.Nat.{add-zero, add-suc, suc-add}
 use native.Mathlib.Omega.{arith}
-use borrow.Author.Tests.{eqb-true, eqb-false, not-true, ne-eqb, eq-eqb}
+use lib.ListN.{length, getD, length-replicate, getD-replicate}
+use borrow.Author.Tests.{eqb-true, eqb-false, not-true, ne-eqb, eq-eqb, lt-ltb, le-ltb}
 use lib.Dec.{eqb, ltb}
 use Rattle.rules.specs.declared.Config.{Config}
 use Rattle.rules.specs.Memory.{radix, trusted, startCode, laterCode, freeCode, ownerOf, startsSegment, segmentCodes, heapBlock, safeBlock, blocks}
@@ -31,24 +33,56 @@ pub segmentCodes-below : (d n : ℕ) → d ≤ trusted → AllBelow radix (segme
 segmentCodes-below d zero h = none
 segmentCodes-below d (suc n) h = one (startCode-lt d h) (all-replicate radix n (laterCode d) (laterCode-lt d h))
 
-either-lt : {r a b : ℕ} (t : Bool) → a < r → b < r → cond t a b < r
-either-lt true h k = h
-either-lt false h k = k
+pub length-segmentCodes : (d n : ℕ) → length (segmentCodes d n) ≡ n
+length-segmentCodes d zero = refl
+length-segmentCodes d (suc n) = ap suc (length-replicate n (laterCode d))
+
+pub getD-segmentCodes-first : (d n : ℕ) → 0 < n → getD (segmentCodes d n) 0 0 ≡ startCode d
+getD-segmentCodes-first d zero h = absurd (omega arith)
+getD-segmentCodes-first d (suc n) h = refl
+
+pub getD-segmentCodes-later : (d n i : ℕ) → suc i < n → getD (segmentCodes d n) (suc i) 0 ≡ laterCode d
+getD-segmentCodes-later d zero i h = absurd (omega arith)
+getD-segmentCodes-later d (suc n) i h = getD-replicate n i (laterCode d) 0 (omega arith)
+
+either : (P : ℕ → Type 0) {a b : ℕ} (t : Bool) → P a → P b → P (cond t a b)
+either P true h k = h
+either P false h k = k
+
+-- what holds of the three codes that set-up writes holds of each place
+setUpCode-by : (P : ℕ → Type 0) → P (startCode trusted) → P (laterCode trusted) → P freeCode → (c : Config) (k : ℕ) → P (setUpCode c k)
+unfolding setUpCode
+setUpCode-by P first other free c k =
+    either P (eqb k 0) (search)
+    (either P (ltb k (heapBlock c)) (search)
+    (either P (ltb k (safeBlock c)) (search) (either P (eqb k (safeBlock c)) (search) (either P (ltb k (blocks c)) (search) (search)))))
 
 pub setUpCode-lt : (c : Config) (k : ℕ) → setUpCode c k < radix
-unfolding setUpCode
-setUpCode-lt c k =
-    let first : startCode trusted < radix = startCode-lt trusted (omega arith) in
-    let other : laterCode trusted < radix = laterCode-lt trusted (omega arith) in
-    either-lt (eqb k 0) first
-    (either-lt (ltb k (heapBlock c)) other
-    (either-lt (ltb k (safeBlock c)) freeCode-lt
-    (either-lt (eqb k (safeBlock c)) first (either-lt (ltb k (blocks c)) other freeCode-lt))))
+setUpCode-lt =
+    setUpCode-by (λ (v : ℕ). v < radix) (startCode-lt trusted (omega arith)) (laterCode-lt trusted (omega arith)) freeCode-lt
 
 pub setUpCodes-below : (c : Config) (k n : ℕ) → AllBelow radix (setUpCodes c k n)
 unfolding setUpCodes
 setUpCodes-below c k zero = none
 setUpCodes-below c k (suc n) = one (setUpCode-lt c k) (setUpCodes-below c (suc k) n)
+
+-- ---- what set-up writes, by place
+
+pub length-setUpCodes : (c : Config) (k n : ℕ) → length (setUpCodes c k n) ≡ n
+unfolding setUpCodes
+length-setUpCodes c k zero = refl
+length-setUpCodes c k (suc n) = ap suc (length-setUpCodes c (suc k) n)
+
+pub getD-setUpCodes : (c : Config) (k n i : ℕ) → i < n → getD (setUpCodes c k n) i 0 ≡ setUpCode c (k + i)
+unfolding setUpCodes
+getD-setUpCodes c k zero i h = absurd (omega arith)
+getD-setUpCodes c k (suc n) zero h = rw add-zero refl
+getD-setUpCodes c k (suc n) (suc i) h = rw (add-suc, ← suc-add) (getD-setUpCodes c (suc k) n i (omega arith))
+
+-- the heap is free
+pub setUpCode-heap : (c : Config) (k : ℕ) → 0 < heapBlock c → heapBlock c ≤ k → k < safeBlock c → setUpCode c k ≡ freeCode
+unfolding setUpCode
+setUpCode-heap c k p l u = rw (ne-eqb k 0 (omega arith), le-ltb k (heapBlock c) l, lt-ltb k (safeBlock c) u)
 
 -- ---- owners
 
@@ -73,6 +107,10 @@ start-trusted = refl
 pub ownerOf-le : (code : ℕ) → code < radix → ownerOf code ≤ trusted
 unfolding ownerOf radix
 ownerOf-le code h = omega arith
+
+-- set-up gives no module a block
+pub setUpCode-owner : (c : Config) (k : ℕ) → ownerOf (setUpCode c k) ≡ trusted
+setUpCode-owner = setUpCode-by (λ (v : ℕ). ownerOf v ≡ trusted) (ownerOf-start trusted) (ownerOf-later trusted) ownerOf-free
 
 -- ---- codes differ
 

@@ -8,15 +8,16 @@ use native.Mathlib.Omega.{arith}
 use lib.ListN.{getD}
 use lib.Dec.{leb, ltb}
 use borrow.Author.Tests.{leb-true, ltb-true, le-leb, lt-ltb}
+use Rattle.rules.specs.declared.RamByte.{RamByte}
 use Rattle.rules.specs.declared.FlashWord.{FlashWord}
 use Rattle.rules.specs.declared.Range.{Range}
 use Rattle.rules.specs.declared.Config.{Config}
 use Rattle.rules.specs.declared.State.{State}
-use Rattle.rules.specs.Memory.{ramBytes, blockBytes, startOf, isMultiple, blocks, heapBlock, safeBlock, mapBytes, mapByte, perByte, trusted}
+use Rattle.rules.specs.Memory.{ramBytes, blockBytes, startOf, blockOf, isMultiple, blocks, heapBlock, safeBlock, mapBytes, mapByte, perByte, trusted}
 use Rattle.rules.specs.Code.{emptyRange, rangeOf, inRange, ordered, allApart, goodSite}
 use Rattle.rules.specs.State.{botBelowTop, mapBelowHeap, heapBelowSafe, safeBelowTop, topInRam, jtInFlash, goodConfig, domainGood, boundGood, safepointerGood, goodState, fresh, zeros}
 use Rattle.laws.proofs.Tests.{byTest, both, each}
-use Rattle.laws.proofs.Blocks.{start-lt, aligned, block-le, block-lt, block-small}
+use Rattle.laws.proofs.Blocks.{start-lt, start-mono, start-le, lt-next, aligned, block-le, block-lt, block-from, block-before, block-small}
 use Rattle.laws.proofs.Map.{map-room, mapBytesFor-pos, mapByte-lt}
 
 -- sections 2 and 3
@@ -162,6 +163,24 @@ module _ {c : Config} (g : GoodConfig c) where
   pub top-start : startOf (c .bot) (blocks c) ≡ c .top .0
   unfolding blocks
   top-start = aligned (c .bot) (c .top) (g .botMultiple) (g .topMultiple) (omega arith)
+
+  -- ---- which part of the protected range an address lies in, by its block
+
+  pub from-heap : (a : RamByte) → c .heap .0 ≤ a .0 → heapBlock c ≤ blockOf (c .bot) a
+  from-heap a l = block-from (c .bot) a (heapBlock c) (omega (arith, heap-start))
+
+  pub to-safe : (a : RamByte) → c .bot .0 ≤ a .0 → a .0 < c .safe .0 → blockOf (c .bot) a < safeBlock c
+  to-safe a b u = block-before (c .bot) a (safeBlock c) b (omega (arith, safe-start))
+
+  pub to-top : (a : RamByte) → c .bot .0 ≤ a .0 → a .0 < c .top .0 → blockOf (c .bot) a < blocks c
+  to-top a b u = block-before (c .bot) a (blocks c) b (omega (arith, top-start))
+
+  pub in-heap : (a : RamByte) → c .bot .0 ≤ a .0 → heapBlock c ≤ blockOf (c .bot) a → blockOf (c .bot) a < safeBlock c
+      → (c .heap .0 ≤ a .0) × (a .0 < c .safe .0)
+  in-heap a b l u = (
+    omega (arith, heap-start, start-mono (c .bot) l, start-le (c .bot) a b),
+    omega (arith, safe-start, start-mono (c .bot) u, lt-next (c .bot) a),
+  )
 
   pub block-fits : {k : ℕ} → k < blocks c → startOf (c .bot) k + blockBytes ≤ c .top .0
   block-fits h = omega (arith, start-lt (c .bot) h, top-start)

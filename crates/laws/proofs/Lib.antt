@@ -14,3 +14,5 @@ pub mod Search
 pub mod Segments
 pub mod Slot
 pub mod ToC
+pub mod Rows
+pub mod SetUp

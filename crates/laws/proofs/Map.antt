@@ -35,7 +35,7 @@ radix-fills = refl
 
 pub mapDigit-lt : (k : ℕ) → mapDigit k < perByte
 unfolding mapDigit
-mapDigit-lt k = mod-lt k perByte-pos
+mapDigit-lt k = mod-lt _ perByte-pos
 
 -- n codes fit the bytes for n
 pub map-room : (n : ℕ) → n ≤ mapBytesFor n * perByte
@@ -84,6 +84,12 @@ abbrev pub Bytes : List ℕ → Type 0
 Bytes ram = (i : ℕ) → getD ram i 0 < 256
 
 -- ---- one code
+
+-- a code is read from its byte alone
+pub code-of-byte : (bot : RamByte) (ram ram′ : List ℕ) (k : ℕ) → getD ram (mapByte bot k) 0 ≡ getD ram′ (mapByte bot k) 0
+    → codeOf bot ram k ≡ codeOf bot ram′ k
+unfolding codeOf
+code-of-byte bot ram ram′ k e = rw e
 
 module _ (bot : RamByte) (ram : List ℕ) where
   pub code-lt : (k : ℕ) → codeOf bot ram k < radix

@@ -6,10 +6,12 @@ use mathlib.Core.Logic.{_≢_}
 use mathlib.Core.List.{List}
 use native.Mathlib.Decide.{ℕ-discrete}
 use native.Mathlib.Omega.{arith}
-use borrow.Author.Tests.{eq-eqb, ne-eqb}
+use lib.Dec.{ltb}
+use borrow.Author.Tests.{eq-eqb, ne-eqb, ltb-true, ltb-false}
 use Rattle.rules.specs.declared.Config.{Config}
 use Rattle.rules.specs.Memory.{safeBlock, codeOf, laterCode, ownerOf}
 use Rattle.rules.specs.Free.{continued, segmentBlocks}
+use Rattle.laws.proofs.Tests.{byTest}
 
 module _ (c : Config) (ram : List ℕ) where
   -- ---- the steps of counting
@@ -62,11 +64,40 @@ module _ (c : Config) (ram : List ℕ) where
         | no n ↦ let i : j ≡ k = omega (arith, continued-stop d k left n) in rw i n
       ]
 
+  -- so n blocks are counted, if n continue the segment and the one behind them does not
+  pub continued-is : (d k left n : ℕ) → n ≤ left → ((j : ℕ) → k ≤ j → j < k + n → codeOf (c .bot) ram j ≡ laterCode d)
+      → (n < left → codeOf (c .bot) ram (k + n) ≢ laterCode d) → continued c ram d k left ≡ n
+  continued-is d k left n l on off =
+      elim (ℕ-discrete (continued c ram d k left) n) [
+        | yes e ↦ e
+        | no q ↦
+            byTest (ltb n (continued c ram d k left))
+            (λ t.
+            let m : n < continued c ram d k left = ltb-true _ _ t in
+            absurd (off (omega (arith, continued-le d k left)) (continued-code d k left (k + n) (omega arith) (omega arith))))
+            (λ t.
+            let m : continued c ram d k left < n = omega (arith, ltb-false n (continued c ram d k left) t) in
+            absurd (continued-last d k left (k + continued c ram d k left) refl (omega arith)
+            (on (k + continued c ram d k left) (omega arith) (omega arith))))
+      ]
+
   -- ---- a segment
 
   pub segment-some : (k : ℕ) → 0 < segmentBlocks c ram k
   unfolding segmentBlocks
   segment-some k = omega arith
+
+  -- n blocks from k on are a segment of the owner of block k, if those behind the first continue it and the next block does not
+  pub segment-is : (d k n : ℕ) → ownerOf (codeOf (c .bot) ram k) ≡ d → 0 < n → k + n ≤ safeBlock c
+      → ((j : ℕ) → k < j → j < k + n → codeOf (c .bot) ram j ≡ laterCode d)
+      → (k + n < safeBlock c → codeOf (c .bot) ram (k + n) ≢ laterCode d) → segmentBlocks c ram k ≡ n
+  unfolding segmentBlocks
+  segment-is d k n owner some fits on off =
+      let e : suc k + (n - 1) ≡ k + n = omega arith in
+      let count =
+      continued-is d (suc k) (safeBlock c - suc k) (n - 1) (omega arith) (λ j l u. on j l (omega arith))
+      (λ l q. off (omega arith) (rw e at q)) in
+      rw (owner, count) (omega arith)
 
   pub segment-in-heap : (k : ℕ) → k < safeBlock c → k + segmentBlocks c ram k ≤ safeBlock c
   unfolding segmentBlocks

@@ -38,7 +38,7 @@ numberOfRefusal NoSegment = 18
 numberOfRefusal NotOwner = 19
 numberOfRefusal DomainAbove = 20
 
--- "0 done"
+-- 0 is done
 abbrev pub numberOf : Answer → ℕ
 numberOf (Done v) = 0
 numberOf (Refused r) = numberOfRefusal r
@@ -59,6 +59,6 @@ abbrev pub give : Answer → State → List ℕ → State → List ℕ → Given
 give (Done v) s ram s′ ram′ = record { answer = Done v; state = s′; ram = ram′ }
 give (Refused r) s ram s′ ram′ = record { answer = Refused r; state = s; ram = ram }
 
--- the form of every contract: a function handed back r and left ram, and that is what the rule gives
+-- the form of the contracts of set-up and the six operations: a function handed back r and left ram, and that is what the rule gives
 abbrev pub Gives : Outcome → List ℕ → Given → Type 0
 Gives r ram g = (r .answer ≡ g .answer) × (r .state ≡ g .state) × (ram ≡ g .ram)

@@ -1,5 +1,5 @@
 -- Section 5: call.
-use Prim.Native.Nat.{ℕ, _+_, _-_, _*_, _/_, _%_}
+use Prim.Native.Nat.{ℕ, _+_, _-_, _/_, _%_}
 use mathlib.Core.Bool.{Bool, cond, not, _&&_, _||_}
 use mathlib.Core.List.{List, [], _∷_}
 use lib.ListN.{length}
@@ -47,6 +47,8 @@ pointerOutside s p = ltb (p .0) (s .config .top .0 - 1) || ltb (s .bound .0) (p 
 abbrev pub isCross : State → FlashWord → Bool
 isCross s t = not (isLocal (s .config) t)
 
+-- "A local call needs its target there too, ignores the stack pointer"; "Value: target of a local call, table entry of a cross-domain
+-- call."
 abbrev pub callAnswer : State → List ℕ → List ℕ → FlashWord → FlashWord → RamByte → Answer
 callAnswer s ram table t site p =
     not (eqb (length ram) ramBytes) || not (eqb (length table) tableWords) ⇒ WrongSize ∣

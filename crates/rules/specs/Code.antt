@@ -1,5 +1,5 @@
 -- Section 3: code and jump tables.
-use Prim.Native.Nat.{ℕ, _+_, _-_, _*_, _/_}
+use Prim.Native.Nat.{ℕ, _-_, _/_}
 use mathlib.Core.Bool.{Bool, true, not, _&&_, _||_}
 use mathlib.Core.List.{List, [], _∷_}
 use lib.ListN.{getD}
@@ -67,10 +67,10 @@ calledDomain c t = tableWord c t / domainWords
 abbrev pub entryOf : Config → List ℕ → FlashWord → FlashWord
 entryOf c table t = flashWord (getD table (tableWord c t) 0)
 
--- "An entry is good if it is not 0 and lies in that domain's code range."
+-- "An entry is good if it is not 0", "and lies in that domain's code range."
 abbrev pub goodEntry : Config → List ℕ → FlashWord → Bool
 goodEntry c table t = not (eqb (entryOf c table t .0) 0) && inRange (rangeOf c (calledDomain c t)) (entryOf c table t)
 
--- section 5: a return site must lie in the code range of the domain that is returned to
+-- section 5: "The return site must lie in the current domain's code range", at a call; at a return, in that of "the domain returned to"
 abbrev pub goodSite : Config → ℕ → FlashWord → Bool
 goodSite c d site = inRange (rangeOf c d) site

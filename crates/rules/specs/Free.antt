@@ -38,6 +38,7 @@ segmentBlocks c ram k = suc (continued c ram (ownerOf (codeOf (c .bot) ram k)) (
 abbrev pub blocksAt : State → List ℕ → RamByte → ℕ
 blocksAt s ram a = segmentBlocks (s .config) ram (blockOf (s .config .bot) a)
 
+-- "Only the owner may act."
 abbrev pub freeAnswer : State → List ℕ → RamByte → Answer
 freeAnswer s ram a =
     not (eqb (length ram) ramBytes) ⇒ WrongSize ∣
@@ -61,7 +62,7 @@ changeAnswer s ram a d =
     leb trusted d ⇒ DomainAbove ∣
     Done (blocksAt s ram a)
 
--- "change writes the new domain's codes"
+-- "change writes the new domain's codes"; "A change to oneself is accepted."
 abbrev pub changeOf : State → List ℕ → RamByte → ℕ → Given
 changeOf s ram a d =
     give (changeAnswer s ram a d) s ram s

@@ -1,5 +1,6 @@
 -- Section 2: memory and the map.
--- The numbers 8, 2, 16 and 15 of that section stand in this file and nowhere else.
+-- The block size 8, the 2 codes to a byte, their radix 16 and the free code 15 stand in this file and nowhere else.
+-- "The protected range is bot up to but not including top."
 use Prim.Native.Nat.{ℕ, zero, suc, _+_, _-_, _*_, _/_, _%_}
 use mathlib.Core.Bool.{Bool, not, _&&_}
 use mathlib.Core.List.{List, [], _∷_}
@@ -102,7 +103,7 @@ setCodes bot ram k (v ∷ vs) = setCodes bot (setCode bot ram k v) (suc k) vs
 abbrev pub trusted : ℕ
 trusted = 7
 
--- "2d + 1 starts a segment of domain d and 2d continues it"
+-- "2d + 1 starts a segment of domain d and 2d continues it"; "14 continues a trusted segment"
 unfoldable pub startCode : ℕ → ℕ
 startCode d = 2 * d + 1
 
@@ -121,7 +122,7 @@ ownerOf code = code / 2
 unfoldable pub startsSegment : ℕ → Bool
 startsSegment code = eqb (code % 2) 1 && not (eqb code freeCode)
 
--- "inside the heap it means free only, and outside it never means free"
+-- "inside the heap it means free only, and outside it never means free": "The trusted domain holds no heap segment."
 unfoldable pub isFree : Config → List ℕ → ℕ → Bool
 isFree c ram k = inHeap c k && eqb (codeOf (c .bot) ram k) freeCode
 

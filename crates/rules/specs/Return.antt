@@ -15,9 +15,9 @@ use Rattle.rules.specs.Memory.{ramBytes, trusted}
 use Rattle.rules.specs.Code.{flashWord, goodSite}
 use Rattle.rules.specs.State.{goodState, ramByte}
 use Rattle.rules.specs.Answers.{_⇒_∣_, Given, give}
-use Rattle.rules.specs.Call.{localTag, frameBytes}
+use Rattle.rules.specs.Call.{localTag}
 
--- the sixteen bits at i, low byte first
+-- the sixteen bits at i, "low byte first" (section 7)
 abbrev pub wordAt : List ℕ → ℕ → ℕ
 wordAt bytes i = getD bytes i 0 + 256 * getD bytes (i + 1) 0
 

@@ -1,6 +1,6 @@
 -- Section 7: the script program, from the bytes that it reads to the text that it prints.
 use Prim.Native.Nat.{ℕ, zero, suc, _+_, _-_, _*_, _/_, _%_}
-use mathlib.Core.Bool.{Bool, true, cond, not, _&&_}
+use mathlib.Core.Bool.{Bool, true, cond, _&&_}
 use mathlib.Core.List.{List, [], _∷_, _++_}
 use lib.ListN.{length, getD, set, replicate}
 use lib.Dec.{leb, ltb, eqb}
@@ -63,6 +63,10 @@ configAt input =
 abbrev pub countAt : List ℕ → ℕ
 countAt input = wordAt input countPlace
 
+-- "then operations to the end"
+abbrev pub operationsPlace : List ℕ → ℕ
+operationsPlace input = pairsPlace + 4 * countAt input
+
 -- "(later ones win, others 0)": the table with the n pairs from place at on written to it
 unfoldable pub entriesAt : List ℕ → ℕ → ℕ → List ℕ → List ℕ
 entriesAt input at zero table = table
@@ -81,12 +85,8 @@ abbrev pub headerGood : List ℕ → Bool
 headerGood input =
     leb pairsPlace (length input)
     && markGood input
-    && leb (pairsPlace + 4 * countAt input) (length input)
+    && leb (operationsPlace input) (length input)
     && indicesGood input pairsPlace (countAt input)
-
--- "then operations to the end"
-abbrev pub operationsPlace : List ℕ → ℕ
-operationsPlace input = pairsPlace + 4 * countAt input
 
 -- ---- an operation
 

@@ -1,5 +1,5 @@
 -- Section 4: the state, with the configuration rules of sections 2 and 3, a row for each.
-use Prim.Native.Nat.{ℕ, _+_, _-_, _*_}
+use Prim.Native.Nat.{ℕ, _+_, _-_}
 use mathlib.Core.Bool.{Bool, _&&_}
 use lib.ListN.{replicate}
 use lib.Dec.{leb, ltb}

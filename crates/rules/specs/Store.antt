@@ -38,5 +38,6 @@ storeAnswer s ram a =
     not (isTrusted s) && aboveBound s a ⇒ AboveBound ∣
     Done 0
 
+-- "Store's value is 0."
 abbrev pub storeOf : State → List ℕ → RamByte → ℕ → Given
 storeOf s ram a b = give (storeAnswer s ram a) s ram s (set ram (a .0) b)

@@ -1,7 +1,7 @@
-// The types of document 01. What they mean stands in specs/, one file for each section.
+// The types of document 01. What they mean stands in specs/, a file for each part of it.
 
 // Section 1: three numbers that are never mixed.
-// A byte of RAM, 0 to 4095; as an end also 4096.
+// A RAM byte address: any sixteen bits. One that lies in RAM is at most 4095, an end at most 4096.
 pub struct RamByte(pub u16);
 // A 16-bit word of flash.
 pub struct FlashWord(pub u16);
@@ -32,7 +32,7 @@ pub struct State {
     pub safepointer: RamByte,
 }
 
-// Section 5: a frame of the safe stack, as a return finds it.
+// Section 5: a frame of the safe stack, as a call pushes it and a return finds it. Only a return finds damage.
 pub enum Frame {
     Local(FlashWord),
     // return site, old bound, calling domain
@@ -52,6 +52,7 @@ pub enum Refusal {
     BrokenRule,
     BadState,
     PastRam,
+    // below bot, or a block of another owner
     OtherOwner,
     AboveBound,
     SiteOutside,

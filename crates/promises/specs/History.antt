@@ -1,0 +1,74 @@
+-- Histories: a set-up and any sequence of operations after it, refused ones included; and all that is assumed of one.
+-- Assumes nothing.
+use Prim.Native.Nat.{ℕ, _+_, _≤_, _<_}
+use mathlib.Core.Path.{_≡_}
+use mathlib.Core.Logic.{_⊎_}
+use mathlib.Core.List.{List}
+use lib.ListN.{getD}
+use Rattle.rules.specs.declared.Config.{Config}
+use Rattle.rules.specs.declared.State.{State}
+use Rattle.rules.specs.declared.Answer.{Answer}
+use Rattle.rules.specs.declared.Answer.the-variants.{Done}
+use Rattle.rules.specs.Memory.{mapBytes, trusted}
+use Rattle.rules.specs.State.{ramByte}
+use Rattle.rules.specs.Answers.{Given}
+use Rattle.rules.specs.SetUp.{setUpOf}
+use Rattle.promises.specs.Operations.{Operation, store, Fits, step}
+
+infixl 5 _then_
+-- read from left to right: `setUp c ram then malloc 20 then return`
+pub data History : Type 0 where
+  setUp : (config : Config) (ram : List ℕ) → History
+  _then_ : History → Operation → History
+
+-- what the last operation of a history answered, and the machine that it left
+unfoldable pub after : History → Given
+after (setUp c ram) = setUpOf c ram
+after (h then o) = let m = after h in step (m .state) (m .ram) o
+
+abbrev pub stateOf : History → State
+stateOf h = after h .state
+
+abbrev pub ramOf : History → List ℕ
+ramOf h = after h .ram
+
+-- the configuration that set-up was given
+unfoldable pub configOf : History → Config
+configOf (setUp c ram) = c
+configOf (h then o) = configOf h
+
+-- the domain that is current, and the byte at an address
+abbrev pub domainOf : History → ℕ
+domainOf h = stateOf h .domain
+
+abbrev pub byteAt : History → ℕ → ℕ
+byteAt h x = getD (ramOf h) x 0
+
+-- what an operation is answered when it is asked next
+abbrev pub answerTo : History → Operation → Answer
+answerTo h o = step (stateOf h) (ramOf h) o .answer
+
+-- the operation asked next stores some byte b to address x, and is carried out while domain d is current
+abbrev pub StoredBy : History → Operation → ℕ → ℕ → Type 0
+StoredBy h o x d = (b : ℕ) × (o ≡ store (ramByte x) b) × (answerTo h o ≡ Done 0) × (domainOf h ≡ d)
+
+-- address x lies in the map; in the safe stack area
+abbrev pub InMap : Config → ℕ → Type 0
+InMap c x = (c .bot .0 ≤ x) × (x < c .bot .0 + mapBytes c)
+
+abbrev pub InSafeStack : Config → ℕ → Type 0
+InSafeStack c x = (c .safe .0 ≤ x) × (x < c .top .0)
+
+abbrev pub Bytes : List ℕ → Type 0
+Bytes ram = (i : ℕ) → getD ram i 0 < 256
+
+-- All that is assumed: "after an accepted set-up", on RAM that holds bytes; operands as wide as section 5 says; and
+-- "in which no trusted store lands in the map or the safe stack area".
+abbrev pub Assumed : History → Type 0
+Assumed (setUp c ram) = (setUpOf c ram .answer ≡ Done 0) × Bytes ram
+Assumed (h then o) = Assumed h × Fits o × ((x : ℕ) → StoredBy h o x trusted → InMap (configOf h) x ⊎ InSafeStack (configOf h) x → ⊥)
+
+-- a stretch of a history, from one moment to a later one: P holds of each of its operations and of the history before that operation
+pub data Stretch (P : History → Operation → Type 0) (from : History) : History → Type 0 where
+  none : Stretch P from from
+  next : {h : History} {o : Operation} → Stretch P from h → P h o → Stretch P from (h then o)
