@@ -7,9 +7,15 @@ ghost use Rattle.rules.specs.Memory.{blockBytes, startOf, blockOf, isMultiple, 
 ghost use Rattle.rules.specs.Code.{flashWord};
 ghost use Rattle.rules.specs.State.{ramByte};
 ghost use Rattle.rules.specs.Malloc.{block};
+
+pub mod packing;
+
 use rules::Block;
 use rules::FlashWord;
 use rules::RamByte;
+
+// RAM is this many bytes.
+pub const RAM_BYTES: u16 = 4096;
 
 const BLOCK_BYTES: u16 = 8;
 
@@ -77,7 +83,7 @@ pub fn below(a: RamByte, n: u16) -> RamByte
 pub fn last_byte() -> RamByte
     ensures { λ r. ⌜ r ≡ ramByte (ramBytes - 1) ⌝ }
 {
-    RamByte(4095)
+    RamByte(RAM_BYTES - 1)
 }
 
 // The zero of a refused set-up's state.

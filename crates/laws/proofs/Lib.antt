@@ -16,3 +16,4 @@ pub mod Slot
 pub mod ToC
 pub mod Rows
 pub mod SetUp
+pub mod Answers

@@ -1,8 +1,9 @@
 -- Tests: deciding by one, and taking a conjunction or a disjunction apart.
 -- Assumes nothing.
-use mathlib.Core.Path.{_≡_, refl}
+use mathlib.Core.Path.{_≡_, refl, sym, _∙_}
 use mathlib.Core.List.{List, [], _∷_}
-use mathlib.Core.Bool.{Bool, true, false, _&&_, _||_, true≢false, false≢true}
+use mathlib.Core.Bool.{Bool, true, false, not, _&&_, _||_, and-false, true≢false, false≢true}
+use borrow.Author.Tests.{not-true, not-false}
 
 -- a goal by the two outcomes of a test
 pub byTest : {C : Type 0} (t : Bool) → (t ≡ true → C) → (t ≡ false → C) → C
@@ -46,3 +47,20 @@ each t (u ∷ us) h = split t u us (each (t && u) us h)
     split : (t u : Bool) (us : List Bool) → Each (t && u) us → (t ≡ true) × Each u us
     split true u us e = (refl, e)
     split false u us e = absurd (false≢true (first false us e))
+
+-- a function answered r, its rule says t, and the caller tested r
+pub failed : {r t : Bool} → r ≡ t → not r ≡ true → t ≡ false
+failed {r} e h = sym e ∙ not-true r h
+
+pub passed : {r t : Bool} → r ≡ t → not r ≡ false → t ≡ true
+passed {r} e h = sym e ∙ not-false r h
+
+-- a conjunction by one of its sides
+pub left-false : (a b : Bool) → a ≡ false → (a && b) ≡ false
+left-false a b h = rw h
+
+pub right-false : (a b : Bool) → b ≡ false → (a && b) ≡ false
+right-false a b h = rw (h, and-false)
+
+pub left-true : (a b : Bool) → a ≡ true → (a && b) ≡ b
+left-true a b h = rw h

@@ -1,0 +1,129 @@
+-- The rules of a configuration in the groups in which the code tests them, and what a loop over the ranges has left.
+-- Assumes nothing.
+use Prim.Native.Nat.{ℕ, suc, _+_, _-_, _≤_, _<_}
+use mathlib.Core.Path.{_≡_, refl, sym, _∙_}
+use mathlib.Core.Bool.{Bool, true, false, _&&_, and-true, and-false, and-assoc}
+use mathlib.Core.List.{List}
+use native.Mathlib.Omega.{arith}
+use native.Mathlib.Numerals.{add-one}
+use lib.Dec.{leb, ltb}
+use lib.ListN.{length, getD, drop, drop-of-length-le}
+use lib.Seq.{drop-cons}
+use borrow.Author.Tests.{lt-ltb, le-ltb, le-leb, lt-leb, ne-eqb, leb-true, leb-false}
+use Rattle.rules.specs.declared.FlashWord.{FlashWord}
+use Rattle.rules.specs.declared.Range.{Range}
+use Rattle.rules.specs.declared.Config.{Config}
+use Rattle.rules.specs.declared.State.{State}
+use Rattle.rules.specs.Memory.{ramBytes, trusted, blockOf, blocks, mapBytesFor, mapBytes}
+use Rattle.rules.specs.Code.{emptyRange, ordered, apart, apartFrom, allApart}
+use Rattle.rules.specs.State.{multiples, botBelowTop, mapBelowHeap, heapBelowSafe, safeBelowTop, topInRam, jtInFlash, rangesOrdered, rangesApart, goodConfig, goodState}
+use Rattle.laws.proofs.Tests.{byTest, left-false, right-false, left-true}
+
+-- the order of the four addresses
+abbrev pub inOrder : Config → Bool
+inOrder c = botBelowTop c && mapBelowHeap c && heapBelowSafe c && safeBelowTop c && topInRam c
+
+module _ (c : Config) where
+  by-groups : goodConfig c ≡ (multiples c && (inOrder c && (jtInFlash c && (rangesOrdered c && rangesApart c))))
+  unfolding goodConfig
+  by-groups = simp and-assoc
+
+  pub not-multiples : multiples c ≡ false → false ≡ goodConfig c
+  not-multiples h = sym (by-groups ∙ left-false (multiples c) _ h)
+
+  pub not-in-order : inOrder c ≡ false → false ≡ goodConfig c
+  not-in-order h = sym (by-groups ∙ right-false (multiples c) _ (left-false (inOrder c) _ h))
+
+  pub not-in-flash : jtInFlash c ≡ false → false ≡ goodConfig c
+  not-in-flash h = sym (by-groups ∙ right-false (multiples c) _ (right-false (inOrder c) _ (left-false (jtInFlash c) _ h)))
+
+  pub not-ordered : rangesOrdered c ≡ false → false ≡ goodConfig c
+  not-ordered h =
+      sym
+      (by-groups
+      ∙ right-false (multiples c) _ (right-false (inOrder c) _ (right-false (jtInFlash c) _ (left-false (rangesOrdered c) _ h))))
+
+  pub ranges-decide : multiples c ≡ true → inOrder c ≡ true → jtInFlash c ≡ true → rangesOrdered c ≡ true → rangesApart c ≡ goodConfig c
+  ranges-decide m i j o =
+      sym
+      (by-groups ∙ left-true (multiples c) _ m ∙ left-true (inOrder c) _ i ∙ left-true (jtInFlash c) _ j ∙ left-true (rangesOrdered c) _ o)
+
+pub map-length : (c : Config) → mapBytesFor (blockOf (c .bot) (c .top)) ≡ mapBytes c
+unfolding mapBytes blocks
+map-length c = refl
+
+leb-sub : (b m h : ℕ) → b ≤ h → leb m (h - b) ≡ leb (b + m) h
+leb-sub b m h p =
+    byTest (leb (b + m) h)
+    (λ t. rw t (le-leb m (h - b) (omega (arith, leb-true (b + m) h t))))
+    (λ t. rw t (lt-leb m (h - b) (omega (arith, leb-false (b + m) h t))))
+
+-- where the other bounds hold, the map's end decides
+pub end-decides : (b h s t m : ℕ) → b < t → b ≤ h → h ≤ s → s ≤ t → t ≤ ramBytes
+    → leb m (h - b) ≡ (ltb b t && leb (b + m) h && leb h s && leb s t && leb t ramBytes)
+end-decides b h s t m bt bh hs st tr =
+    rw (lt-ltb b t bt, le-leb h s hs, le-leb s t st, le-leb t ramBytes tr) (simp and-true (leb-sub b m h bh))
+
+-- a state, by its fields
+module _ (s : State) where
+  pub domain-above : trusted < s .domain → false ≡ goodState s
+  unfolding goodState
+  domain-above h = simp (lt-leb _ _ h, and-false)
+
+  pub bound-above : ramBytes ≤ s .bound .0 → false ≡ goodState s
+  unfolding goodState
+  bound-above h = simp (le-ltb _ _ h, and-false)
+
+  pub bound-below : s .bound .0 + 1 < s .config .top .0 → false ≡ goodState s
+  unfolding goodState
+  bound-below h = simp (lt-leb (s .config .top .0 - 1) (s .bound .0) (omega arith), and-false)
+
+  pub pointer-below : s .safepointer .0 < s .config .safe .0 → false ≡ goodState s
+  unfolding goodState
+  pointer-below h = simp (lt-leb _ _ h, and-false)
+
+  pub pointer-above : s .config .top .0 < s .safepointer .0 → false ≡ goodState s
+  unfolding goodState
+  pointer-above h = simp (lt-leb _ _ h, and-false)
+
+  pub config-decides : s .domain ≤ trusted → s .bound .0 < ramBytes → s .config .top .0 ≤ s .bound .0 + 1
+      → s .config .safe .0 ≤ s .safepointer .0 → s .safepointer .0 ≤ s .config .top .0 → goodConfig (s .config) ≡ goodState s
+  unfolding goodState
+  config-decides d b t l h =
+      simp
+      (le-leb _ _ d, lt-ltb _ _ b, le-leb (s .config .top .0 - 1) (s .bound .0) (omega arith), le-leb _ _ l, le-leb _ _ h, and-true)
+
+-- where no earlier way of being apart holds, the last decides
+pub last-decides : (r q : Range) → (r .start .0 ≡ r .end .0 → ⊥) → (q .start .0 ≡ q .end .0 → ⊥) → q .start .0 < r .end .0
+    → leb (q .end .0) (r .start .0) ≡ apart r q
+last-decides r q a b d = simp (ne-eqb _ _ a, ne-eqb _ _ b, lt-leb _ _ d)
+
+-- ---- loops over the ranges: what is left decides
+
+module _ (rs : List Range) (i : ℕ) (lt : i < length rs) where
+  pub ordered-step : (jt : FlashWord)
+      → ordered jt (drop i rs)
+      ≡ (leb (getD rs i emptyRange .start .0) (getD rs i emptyRange .end .0) && leb (getD rs i emptyRange .end .0) (jt .0) && ordered jt (drop (i + 1) rs))
+  unfolding ordered
+  ordered-step jt = rw (add-one, drop-cons rs i emptyRange)
+
+  pub from-step : (r : Range) → apartFrom r (drop i rs) ≡ (apart r (getD rs i emptyRange) && apartFrom r (drop (i + 1) rs))
+  unfolding apartFrom
+  from-step r = rw (add-one, drop-cons rs i emptyRange)
+
+  pub apart-step : allApart (drop i rs) ≡ (apartFrom (getD rs i emptyRange) (drop (suc i) rs) && allApart (drop (i + 1) rs))
+  unfolding allApart
+  apart-step = rw (add-one, drop-cons rs i emptyRange)
+
+module _ (rs : List Range) (i : ℕ) (end : length rs ≤ i) where
+  pub ordered-end : (jt : FlashWord) → ordered jt (drop i rs) ≡ true
+  unfolding ordered
+  ordered-end jt = rw (drop-of-length-le rs end)
+
+  pub from-end : (r : Range) → apartFrom r (drop i rs) ≡ true
+  unfolding apartFrom
+  from-end r = rw (drop-of-length-le rs end)
+
+  pub apart-end : allApart (drop i rs) ≡ true
+  unfolding allApart
+  apart-end = rw (drop-of-length-le rs end)

@@ -1,0 +1,44 @@
+// Section 2: the four addresses of a configuration.
+ghost use mathlib.Core.Path.{_≡_};
+ghost use mathlib.Core.Bool.{_&&_};
+ghost use Rattle.rules.specs.State.{multiples, botBelowTop, mapBelowHeap, heapBelowSafe, safeBelowTop, topInRam};
+use rules::Config;
+
+pub fn multiples(config: Config) -> bool
+    ensures { λ r. ⌜ r ≡ multiples config ⌝ }
+{
+    if !address::is_multiple(config.bot) {
+        return false;
+    }
+    if !address::is_multiple(config.heap) {
+        return false;
+    }
+    if !address::is_multiple(config.safe) {
+        return false;
+    }
+    address::is_multiple(config.top)
+}
+
+// Top is tested first, so that no sum or difference below can wrap.
+pub fn in_order(config: Config) -> bool
+    ensures { λ r. ⌜ r ≡ (botBelowTop config && mapBelowHeap config && heapBelowSafe config && safeBelowTop config && topInRam config) ⌝ }
+{
+    if address::RAM_BYTES < config.top.0 {
+        return false;
+    }
+    if config.top.0 < config.safe.0 {
+        return false;
+    }
+    if config.safe.0 < config.heap.0 {
+        return false;
+    }
+    if config.heap.0 < config.bot.0 {
+        return false;
+    }
+    if config.top.0 <= config.bot.0 {
+        return false;
+    }
+    let blocks = address::block_of(config.bot, config.top);
+    let bytes = address::packing::map_bytes_for(blocks.0);
+    bytes <= config.heap.0 - config.bot.0
+}

@@ -1,0 +1,4 @@
+-- Facts about the codes of this crate's file.
+pub mod Halves
+pub mod Runs
+pub mod Within

@@ -1,0 +1,32 @@
+-- `runtime::return_check::early` meets its contract. Assumes nothing.
+use Rattle.laws.proofs.Tests.{failed, passed}
+use Rattle.runtime.proofs.Returns.{wrong-size, bad-state, no-frame, a-frame}
+use borrow.Author.Needs.{needs}
+use Rattle.runtime.proofs.return_check.early.Statement.{statement}
+use Rattle.runtime.proofs.return_check.early.Tie as tie
+
+returns : tie.Need-returns
+returns c =
+    let x = c .before .before .args in
+    wrong-size (x .state) (x .ram .now) (c .if1 .taken)
+
+good-state-requires : tie.Need-good-state-requires
+good-state-requires c κs = search needs
+
+returns-2 : tie.Need-returns-2
+returns-2 c =
+    let x = c .before .before .before .before .args in
+    bad-state (x .state) (x .ram .now) (c .before .before .if1 .left) (failed (c .before .good-state .ensures) (c .if2 .taken))
+
+returns-3 : tie.Need-returns-3
+returns-3 c =
+    let x = c .before .before .before .before .before .before .before .before .args in
+    no-frame (x .state) (x .ram .now) (c .before .before .before .before .before .before .if1 .left) (passed (c .before .before .before .before .before .good-state .ensures) (c .before .before .before .before .if2 .left)) (c .if3 .taken)
+
+returns-4 : tie.Need-returns-4
+returns-4 c =
+    let x = c .before .before .before .before .before .before .before .before .args in
+    a-frame (x .state) (x .ram .now) (c .before .before .before .before .before .before .if1 .left) (passed (c .before .before .before .before .before .good-state .ensures) (c .before .before .before .before .if2 .left)) (c .if3 .left)
+
+pub early-spec : {M : Type 1} → statement M
+early-spec = tie.close (tie.spec returns good-state-requires returns-2 returns-3 returns-4)

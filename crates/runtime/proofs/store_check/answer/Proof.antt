@@ -1,0 +1,90 @@
+-- `runtime::store_check::answer` meets its contract. Assumes nothing.
+use mathlib.Core.Path.{sym, _∙_}
+use Rattle.laws.proofs.Tests.{failed, passed}
+use Rattle.runtime.proofs.StoreRows.{wrong-size, bad-state, past-ram, by-trusted, below-bot, above-bound, on-stack, of-other, of-own, owner-read, map-byte-inside}
+use borrow.Author.Needs.{needs}
+use Rattle.runtime.proofs.store_check.answer.Statement.{statement}
+use Rattle.runtime.proofs.store_check.answer.Tie as tie
+
+returns : tie.Need-returns
+returns c =
+    let x = c .before .before .args in
+    wrong-size (x .state) (x .ram .now) (x .address) (c .if1 .taken)
+
+good-state-requires : tie.Need-good-state-requires
+good-state-requires c κs = search needs
+
+returns-2 : tie.Need-returns-2
+returns-2 c =
+    let x = c .before .before .before .before .args in
+    bad-state (x .state) (x .ram .now) (x .address) (c .before .before .if1 .left) (failed (c .before .good-state .ensures) (c .if2 .taken))
+
+returns-3 : tie.Need-returns-3
+returns-3 c =
+    let x = c .before .before .before .before .before .before .args in
+    past-ram (x .state) (x .ram .now) (x .address) (c .before .before .before .before .if1 .left) (passed (c .before .before .before .good-state .ensures) (c .before .before .if2 .left)) (c .if3 .taken)
+
+returns-4 : tie.Need-returns-4
+returns-4 c =
+    let x = c .before .before .before .before .before .before .before .before .args in
+    by-trusted (x .state) (x .ram .now) (x .address) (c .before .before .before .before .before .before .if1 .left) (passed (c .before .before .before .before .before .good-state .ensures) (c .before .before .before .before .if2 .left)) (c .before .before .if3 .left) (c .if4 .taken)
+
+returns-5 : tie.Need-returns-5
+returns-5 c =
+    let x = c .before .before .before .before .before .before .before .before .before .before .before .before .args in
+    below-bot (x .state) (x .ram .now) (x .address) (c .before .before .before .before .before .before .before .before .before .before .if1 .left) (passed (c .before .before .before .before .before .before .before .before .before .good-state .ensures) (c .before .before .before .before .before .before .before .before .if2 .left)) (c .before .before .before .before .before .before .if3 .left) (c .before .before .before .before .if4 .left) (c .if5 .taken)
+
+returns-6 : tie.Need-returns-6
+returns-6 c =
+    let x = c .before .before .before .before .before .before .before .before .before .before .before .before .before .before .before .before .before .before .args in
+    above-bound (x .state) (x .ram .now) (x .address) (c .before .before .before .before .before .before .before .before .before .before .before .before .before .before .before .before .if1 .left) (passed (c .before .before .before .before .before .before .before .before .before .before .before .before .before .before .before .good-state .ensures) (c .before .before .before .before .before .before .before .before .before .before .before .before .before .before .if2 .left)) (c .before .before .before .before .before .before .before .before .before .before .before .before .if3 .left) (c .before .before .before .before .before .before .before .before .before .before .if4 .left) (c .before .before .before .before .before .before .if5 .left)
+    (c .before .before .before .if6 .taken) (c .if7 .taken)
+
+returns-7 : tie.Need-returns-7
+returns-7 c =
+    let x = c .before .before .before .before .before .before .before .before .before .before .before .before .before .before .before .before .before .before .args in
+    on-stack (x .state) (x .ram .now) (x .address) (c .before .before .before .before .before .before .before .before .before .before .before .before .before .before .before .before .if1 .left) (passed (c .before .before .before .before .before .before .before .before .before .before .before .before .before .before .before .good-state .ensures) (c .before .before .before .before .before .before .before .before .before .before .before .before .before .before .if2 .left)) (c .before .before .before .before .before .before .before .before .before .before .before .before .if3 .left) (c .before .before .before .before .before .before .before .before .before .before .if4 .left) (c .before .before .before .before .before .before .if5 .left)
+    (c .before .before .before .if6 .taken) (c .if7 .left)
+
+block-of-requires : tie.Need-block-of-requires
+block-of-requires c κs = search needs
+
+code-of-requires : tie.Need-code-of-requires
+code-of-requires c κs =
+    let x = c .before .before .before .before .before .before .before .before .before .before .before .before .before .before .before .before .args in
+    (c .before .before .before .before .before .before .before .before .before .before .before .before .before .before .if1 .left, rw (c .block-of .ensures) (map-byte-inside (x .state) (x .address) (passed (c .before .before .before .before .before .before .before .before .before .before .before .before .before .good-state .ensures) (c .before .before .before .before .before .before .before .before .before .before .before .before .if2 .left)) (c .before .before .before .before .if5 .left) (c .before .if6 .left)))
+
+owner-of-requires : tie.Need-owner-of-requires
+owner-of-requires c κs = search needs
+
+returns-8 : tie.Need-returns-8
+returns-8 c =
+    let x = c .before .before .before .before .before .before .before .before .before .before .before .before .before .before .before .before .before .before .before .before .args in
+    let e = owner-read (x .state) (x .ram .now) (x .address) _ _ _ (c .before .before .before .before .block-of .ensures) (c .before .before .before .code-of .ensures) (c .before .before .owner-of .ensures) in
+    of-other (x .state) (x .ram .now) (x .address) (c .before .before .before .before .before .before .before .before .before .before .before .before .before .before .before .before .before .before .if1 .left) (passed (c .before .before .before .before .before .before .before .before .before .before .before .before .before .before .before .before .before .good-state .ensures) (c .before .before .before .before .before .before .before .before .before .before .before .before .before .before .before .before .if2 .left)) (c .before .before .before .before .before .before .before .before .before .before .before .before .before .before .if3 .left) (c .before .before .before .before .before .before .before .before .before .before .before .before .if4 .left) (c .before .before .before .before .before .before .before .before .if5 .left)
+    (c .before .before .before .before .before .if6 .left) (λ h. c .if8 .taken (e ∙ h))
+
+returns-9 : tie.Need-returns-9
+returns-9 c =
+    let x = c .before .before .before .before .before .before .before .before .before .before .before .before .before .before .before .before .before .before .before .before .args in
+    let e = owner-read (x .state) (x .ram .now) (x .address) _ _ _ (c .before .before .before .before .block-of .ensures) (c .before .before .before .code-of .ensures) (c .before .before .owner-of .ensures) in
+    of-own (x .state) (x .ram .now) (x .address) (c .before .before .before .before .before .before .before .before .before .before .before .before .before .before .before .before .before .before .if1 .left) (passed (c .before .before .before .before .before .before .before .before .before .before .before .before .before .before .before .before .before .good-state .ensures) (c .before .before .before .before .before .before .before .before .before .before .before .before .before .before .before .before .if2 .left)) (c .before .before .before .before .before .before .before .before .before .before .before .before .before .before .if3 .left) (c .before .before .before .before .before .before .before .before .before .before .before .before .if4 .left) (c .before .before .before .before .before .before .before .before .if5 .left)
+    (c .before .before .before .before .before .if6 .left) (sym e ∙ c .if8 .left)
+
+pub answer-spec : {M : Type 1} → statement M
+answer-spec =
+    tie.close
+    (tie.spec
+    returns
+    good-state-requires
+    returns-2
+    returns-3
+    returns-4
+    returns-5
+    returns-6
+    returns-7
+    block-of-requires
+    code-of-requires
+    owner-of-requires
+    returns-8
+    returns-9)
