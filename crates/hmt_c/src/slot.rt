@@ -6,12 +6,13 @@ ghost use lib.ListN.{length};
 ghost use lib.Seq.{sets};
 ghost use Rattle.rules.specs.Code.{flashWord};
 ghost use Rattle.rules.specs.State.{ramByte};
-ghost use Rattle.rules.specs.Call.{low, high};
 ghost use Rattle.rules.specs.Return.{wordAt};
 ghost use Rattle.rules.specs.Slot.{slotBytes, boundIn, configIn, stateIn, packed};
 ghost use Rattle.laws.proofs.Slot.{runBytes};
 ghost use Rattle.laws.proofs.ToC.{after};
 use crate::answer::refused;
+use frames::high;
+use frames::low;
 use rules::Answer;
 use rules::Config;
 use rules::FlashWord;
@@ -88,18 +89,6 @@ pub fn state_in(slot: &[u8]) -> State
         bound: bound,
         safepointer: safepointer,
     }
-}
-
-fn low(n: u16) -> u8
-    ensures { λ r. ⌜ r ≡ low n ⌝ }
-{
-    (n % 256) as u8
-}
-
-fn high(n: u16) -> u8
-    ensures { λ r. ⌜ r ≡ high n ⌝ }
-{
-    (n / 256) as u8
 }
 
 // The bound, the safe pointer and the domain: five bytes, and no other.

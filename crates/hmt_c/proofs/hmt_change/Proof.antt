@@ -1,3 +1,4 @@
+-- `hmt_c::hmt_change` meets its contract. Assumes nothing.
 use Prim.Native.Nat.{ℕ}
 use mathlib.Core.List.{List}
 use native.Mathlib.Omega.{arith}
@@ -11,27 +12,16 @@ use Rattle.laws.proofs.ToC.{right-size, kept-to-c}
 use borrow.Author.Needs.{needs}
 use Rattle.hmt_c.proofs.hmt_change.Statement.{statement}
 use Rattle.hmt_c.proofs.hmt_change.Tie as tie
-use Rattle.hmt_c.proofs.hmt_change.Reads as reads
-use Rattle.hmt_c.proofs.hmt_change.Lts as lts
-use Rattle.hmt_c.proofs.answer.packed.Reads as packed-reads
-use Rattle.hmt_c.proofs.operands.ram_byte.Reads as ram-byte-reads
-use Rattle.hmt_c.proofs.refusal_before.Reads as refusal-before-reads
-use Rattle.hmt_c.proofs.slot.state_in.Reads as state-in-reads
-use Rattle.runtime.proofs.change.Reads as change-reads
 
--- src/lib.rt:131:9
 refusal-before-requires : tie.Need-refusal-before-requires
 refusal-before-requires c κs = search needs
 
--- src/lib.rt:133:9
 same-length : tie.Need-same-length
 same-length c = search needs
 
--- src/lib.rt:133:9
 same-length-2 : tie.Need-same-length-2
 same-length-2 c = search needs
 
--- src/lib.rt:133:9
 returns : tie.Need-returns
 returns c =
     let args = c .before .before .before .before .before .before .args in
@@ -39,7 +29,6 @@ returns c =
     let ram : List ℕ = now (args .ram) in
     c .before .refusal-before .ensures .some (c .if1 .taken) (changeOf (stateIn slot) ram (ramByte (args .address)) (args .domain))
 
--- src/lib.rt:135:35
 state-in-requires : tie.Need-state-in-requires
 state-in-requires c κs =
     let args = c .before .before .before .before .before .before .before .args in
@@ -47,27 +36,21 @@ state-in-requires c κs =
     let ram : List ℕ = now (args .ram) in
     right-size slot ram (c .before .before .refusal-before .ensures .none (c .before .if1 .left) .sizes) .0
 
--- src/lib.rt:135:62
 ram-byte-requires : tie.Need-ram-byte-requires
 ram-byte-requires c κs = search needs
 
--- src/lib.rt:135:9
 change-requires : tie.Need-change-requires
-change-requires c κs = ?
+change-requires c κs = search needs
 
--- src/lib.rt:137:5
 packed-requires : tie.Need-packed-requires
 packed-requires c κs = search needs
 
--- src/lib.rt:127:1
 same-length-3 : tie.Need-same-length-3
 same-length-3 c = search needs
 
--- src/lib.rt:127:1
 same-length-4 : tie.Need-same-length-4
 same-length-4 c = search needs
 
--- src/lib.rt:127:1
 returns-2 : tie.Need-returns-2
 returns-2 c =
     let args = c .before .before .before .before .before .before .before .before .before .before .before .before .before .before .args in

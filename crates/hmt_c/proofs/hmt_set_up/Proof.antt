@@ -1,3 +1,4 @@
+-- `hmt_c::hmt_set_up` meets its contract. Assumes nothing.
 use Prim.Native.Nat.{ℕ}
 use mathlib.Core.Path.{_≡_, refl, sym, _∙_}
 use mathlib.Core.Bool.{true}
@@ -9,31 +10,19 @@ use Rattle.laws.proofs.ToC.{right-size, set-up-to-c}
 use borrow.Author.Needs.{needs}
 use Rattle.hmt_c.proofs.hmt_set_up.Statement.{statement}
 use Rattle.hmt_c.proofs.hmt_set_up.Tie as tie
-use Rattle.hmt_c.proofs.hmt_set_up.Reads as reads
-use Rattle.hmt_c.proofs.hmt_set_up.Lts as lts
-use Rattle.hmt_c.proofs.answer.refused.Reads as refused-reads
-use Rattle.hmt_c.proofs.slot.config_in.Reads as config-in-reads
-use Rattle.hmt_c.proofs.slot.set_up.Reads as slot-set-up-reads
-use Rattle.hmt_c.proofs.wrong_size.Reads as wrong-size-reads
-use Rattle.runtime.proofs.set_up.Reads as set-up-reads
 
--- src/lib.rt:51:8
 wrong-size-requires : tie.Need-wrong-size-requires
 wrong-size-requires c κs = search needs
 
--- src/lib.rt:52:9
 refused-requires : tie.Need-refused-requires
 refused-requires c κs = search needs
 
--- src/lib.rt:52:9
 same-length : tie.Need-same-length
 same-length c = search needs
 
--- src/lib.rt:52:9
 same-length-2 : tie.Need-same-length-2
 same-length-2 c = search needs
 
--- src/lib.rt:52:9
 returns : tie.Need-returns
 returns c =
     let args = c .before .before .before .before .before .before .before .args in
@@ -42,7 +31,6 @@ returns c =
     let wrong : wrongSize slot ram ≡ true = sym (c .before .before .wrong-size .ensures) ∙ c .before .if1 .taken in
     rw wrong (c .refused .ensures, refl, refl)
 
--- src/lib.rt:54:35
 config-in-requires : tie.Need-config-in-requires
 config-in-requires c κs =
     let args = c .before .before .before .before .before .before .before .args in
@@ -50,11 +38,9 @@ config-in-requires c κs =
     let ram : List ℕ = now (args .ram) in
     right-size slot ram (sym (c .before .before .wrong-size .ensures) ∙ c .before .if1 .left) .0
 
--- src/lib.rt:54:9
 set-up-requires : tie.Need-set-up-requires
-set-up-requires c κs = ?
+set-up-requires c κs = search needs
 
--- src/lib.rt:55:5
 set-up-requires-2 : tie.Need-set-up-requires-2
 set-up-requires-2 c κs =
     let args = c .before .before .before .before .before .before .before .before .before .before .before .before .before .args in
@@ -62,15 +48,12 @@ set-up-requires-2 c κs =
     let ram : List ℕ = now (args .ram) in
     right-size slot ram (sym (c .before .before .before .before .before .before .before .before .wrong-size .ensures) ∙ c .before .before .before .before .before .before .before .if1 .left) .0
 
--- src/lib.rt:47:1
 same-length-3 : tie.Need-same-length-3
 same-length-3 c = search needs
 
--- src/lib.rt:47:1
 same-length-4 : tie.Need-same-length-4
 same-length-4 c = search needs
 
--- src/lib.rt:47:1
 returns-2 : tie.Need-returns-2
 returns-2 c =
     let args = c .before .before .before .before .before .before .before .before .before .before .before .before .before .before .before .before .args in

@@ -1,3 +1,4 @@
+-- `hmt_c::hmt_store` meets its contract. Assumes nothing.
 use Prim.Native.Nat.{ℕ}
 use mathlib.Core.List.{List}
 use native.Mathlib.Omega.{arith}
@@ -10,27 +11,16 @@ use Rattle.laws.proofs.ToC.{right-size, kept-to-c}
 use borrow.Author.Needs.{needs}
 use Rattle.hmt_c.proofs.hmt_store.Statement.{statement}
 use Rattle.hmt_c.proofs.hmt_store.Tie as tie
-use Rattle.hmt_c.proofs.hmt_store.Reads as reads
-use Rattle.hmt_c.proofs.hmt_store.Lts as lts
-use Rattle.hmt_c.proofs.answer.packed.Reads as packed-reads
-use Rattle.hmt_c.proofs.operands.ram_byte.Reads as ram-byte-reads
-use Rattle.hmt_c.proofs.refusal_before.Reads as refusal-before-reads
-use Rattle.hmt_c.proofs.slot.state_in.Reads as state-in-reads
-use Rattle.runtime.proofs.store.Reads as store-reads
 
--- src/lib.rt:62:9
 refusal-before-requires : tie.Need-refusal-before-requires
 refusal-before-requires c κs = search needs
 
--- src/lib.rt:64:9
 same-length : tie.Need-same-length
 same-length c = search needs
 
--- src/lib.rt:64:9
 same-length-2 : tie.Need-same-length-2
 same-length-2 c = search needs
 
--- src/lib.rt:64:9
 returns : tie.Need-returns
 returns c =
     let args = c .before .before .before .before .before .before .args in
@@ -38,7 +28,6 @@ returns c =
     let ram : List ℕ = now (args .ram) in
     c .before .refusal-before .ensures .some (c .if1 .taken) (storeOf (stateIn slot) ram (ramByte (args .address)) (args .byte))
 
--- src/lib.rt:66:34
 state-in-requires : tie.Need-state-in-requires
 state-in-requires c κs =
     let args = c .before .before .before .before .before .before .before .args in
@@ -46,27 +35,21 @@ state-in-requires c κs =
     let ram : List ℕ = now (args .ram) in
     right-size slot ram (c .before .before .refusal-before .ensures .none (c .before .if1 .left) .sizes) .0
 
--- src/lib.rt:66:61
 ram-byte-requires : tie.Need-ram-byte-requires
 ram-byte-requires c κs = search needs
 
--- src/lib.rt:66:9
 store-requires : tie.Need-store-requires
-store-requires c κs = ?
+store-requires c κs = search needs
 
--- src/lib.rt:68:5
 packed-requires : tie.Need-packed-requires
 packed-requires c κs = search needs
 
--- src/lib.rt:58:1
 same-length-3 : tie.Need-same-length-3
 same-length-3 c = search needs
 
--- src/lib.rt:58:1
 same-length-4 : tie.Need-same-length-4
 same-length-4 c = search needs
 
--- src/lib.rt:58:1
 returns-2 : tie.Need-returns-2
 returns-2 c =
     let args = c .before .before .before .before .before .before .before .before .before .before .before .before .before .before .args in

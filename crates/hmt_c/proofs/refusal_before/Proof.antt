@@ -1,3 +1,4 @@
+-- `hmt_c::refusal_before` meets its contract. Assumes nothing.
 use Rattle.laws.proofs.ToC.{right-size, before-size, before-zero, before-none}
 use mathlib.Core.Path.{sym, _∙_}
 use native.Mathlib.Omega.{arith}
@@ -5,36 +6,25 @@ use denote.Ref.{now}
 use borrow.Author.Needs.{needs}
 use Rattle.hmt_c.proofs.refusal_before.Statement.{statement}
 use Rattle.hmt_c.proofs.refusal_before.Tie as tie
-use Rattle.hmt_c.proofs.refusal_before.Reads as reads
-use Rattle.hmt_c.proofs.refusal_before.Lts as lts
-use Rattle.hmt_c.proofs.answer.refused.Reads as refused-reads
-use Rattle.hmt_c.proofs.wrong_size.Reads as wrong-size-reads
 
--- src/lib.rt:38:8
 wrong-size-requires : tie.Need-wrong-size-requires
 wrong-size-requires c κs = search needs
 
--- src/lib.rt:39:9
 refused-requires : tie.Need-refused-requires
 refused-requires c κs = search needs
 
--- src/lib.rt:39:9
 returns : tie.Need-returns
 returns c = before-size _ _ _ (sym (c .before .before .wrong-size .ensures) ∙ c .before .if1 .taken) (c .refused .ensures)
 
--- src/lib.rt:41:8
 shared-slice-read-if2 : tie.Need-shared-slice-read-if2
 shared-slice-read-if2 c = omega (arith, right-size (now (c .before .before .before .before .before .args .slot)) (now (c .before .before .before .before .before .args .ram)) (sym (c .before .before .wrong-size .ensures) ∙ c .before .if1 .left) .0)
 
--- src/lib.rt:42:9
 refused-requires-2 : tie.Need-refused-requires-2
 refused-requires-2 c κs = search needs
 
--- src/lib.rt:42:9
 returns-2 : tie.Need-returns-2
 returns-2 c = before-zero _ _ _ (sym (c .before .before .before .before .wrong-size .ensures) ∙ c .before .before .before .if1 .left) (c .before .if2 .taken) (c .refused2 .ensures)
 
--- src/lib.rt:35:1
 returns-3 : tie.Need-returns-3
 returns-3 c = before-none _ _ (record { sizes = sym (c .before .before .before .wrong-size .ensures) ∙ c .before .before .if1 .left; zero = c .if2 .left })
 

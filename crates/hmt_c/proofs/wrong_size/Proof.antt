@@ -1,14 +1,11 @@
+-- `hmt_c::wrong_size` meets its contract. Assumes nothing.
 use borrow.Author.Tests.{eq-eqb, ne-eqb}
 use Rattle.hmt_c.proofs.wrong_size.Statement.{statement}
 use Rattle.hmt_c.proofs.wrong_size.Tie as tie
-use Rattle.hmt_c.proofs.wrong_size.Reads as reads
-use Rattle.hmt_c.proofs.wrong_size.Lts as lts
 
--- src/lib.rt:20:9
 returns : tie.Need-returns
 returns c = rw (ne-eqb _ _ (c .if1 .taken))
 
--- src/lib.rt:16:1
 returns-2 : tie.Need-returns-2
 returns-2 c = rw (eq-eqb _ _ (c .if1 .left))
 

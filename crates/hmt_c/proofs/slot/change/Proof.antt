@@ -1,42 +1,31 @@
+-- `hmt_c::slot::change` meets its contract. Assumes nothing.
 use mathlib.Core.Path.{refl}
 use native.Mathlib.Omega.{arith}
 use borrow.Author.Needs.{needs}
 use Rattle.hmt_c.proofs.slot.change.Statement.{statement}
 use Rattle.hmt_c.proofs.slot.change.Tie as tie
-use Rattle.hmt_c.proofs.slot.change.Reads as reads
-use Rattle.hmt_c.proofs.slot.change.Lts as lts
-use Rattle.hmt_c.proofs.answer.refused.Reads as refused-reads
-use Rattle.hmt_c.proofs.slot.write_run.Reads as write-run-reads
 
--- src/slot.rt:124:22
 enum-known-answer : tie.Need-enum-known-answer
 enum-known-answer c = search needs
 
--- src/slot.rt:126:13
 write-run-requires : tie.Need-write-run-requires
 write-run-requires c κs = search needs
 
--- src/slot.rt:127:20
 cast-result : tie.Need-cast-result
 cast-result c = search needs
 
--- src/slot.rt:127:13
 same-length : tie.Need-same-length
 same-length c = search needs
 
--- src/slot.rt:127:13
 returns : tie.Need-returns
 returns c = rw (c .before .before .before .before .before .before .answer .given .1) (omega arith, c .before .before .write-run .ensures)
 
--- src/slot.rt:129:25
 enum-known-answer-2 : tie.Need-enum-known-answer-2
 enum-known-answer-2 c = search needs
 
--- src/slot.rt:129:37
 refused-requires : tie.Need-refused-requires
 refused-requires c κs = search needs
 
--- src/slot.rt:129:37
 returns-2 : tie.Need-returns-2
 returns-2 c = rw (c .before .before .answer2 .given .1) (c .refused .ensures, refl)
 

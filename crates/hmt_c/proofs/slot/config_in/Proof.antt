@@ -1,67 +1,49 @@
+-- `hmt_c::slot::config_in` meets its contract. Assumes nothing.
 use native.Mathlib.Omega.{arith}
 use Rattle.rules.specs.Script.{rangesAt}
 use borrow.Author.Needs.{needs}
 use Rattle.hmt_c.proofs.slot.config_in.Statement.{statement}
 use Rattle.hmt_c.proofs.slot.config_in.Tie as tie
-use Rattle.hmt_c.proofs.slot.config_in.Reads as reads
-use Rattle.hmt_c.proofs.slot.config_in.Lts as lts
-use Rattle.hmt_c.proofs.slot.flash_word_at.Reads as flash-word-at-reads
-use Rattle.hmt_c.proofs.slot.ram_byte_at.Reads as ram-byte-at-reads
-use Rattle.hmt_c.proofs.slot.range_at.Reads as range-at-reads
 
--- src/slot.rt:43:9
 range-at-requires : tie.Need-range-at-requires
 range-at-requires c κs = search needs
 
--- src/slot.rt:44:9
 range-at-requires-2 : tie.Need-range-at-requires-2
 range-at-requires-2 c κs = search needs
 
--- src/slot.rt:45:9
 range-at-requires-3 : tie.Need-range-at-requires-3
 range-at-requires-3 c κs = search needs
 
--- src/slot.rt:46:9
 range-at-requires-4 : tie.Need-range-at-requires-4
 range-at-requires-4 c κs = search needs
 
--- src/slot.rt:47:9
 range-at-requires-5 : tie.Need-range-at-requires-5
 range-at-requires-5 c κs = search needs
 
--- src/slot.rt:48:9
 range-at-requires-6 : tie.Need-range-at-requires-6
 range-at-requires-6 c κs = search needs
 
--- src/slot.rt:49:9
 range-at-requires-7 : tie.Need-range-at-requires-7
 range-at-requires-7 c κs = search needs
 
--- src/slot.rt:50:9
 range-at-requires-8 : tie.Need-range-at-requires-8
 range-at-requires-8 c κs = search needs
 
--- src/slot.rt:53:14
 ram-byte-at-requires : tie.Need-ram-byte-at-requires
 ram-byte-at-requires c κs = omega (arith, c .before .before .before .before .before .before .before .before .before .pre)
 
--- src/slot.rt:54:15
 ram-byte-at-requires-2 : tie.Need-ram-byte-at-requires-2
 ram-byte-at-requires-2 c κs = omega (arith, c .before .before .before .before .before .before .before .before .before .before .pre)
 
--- src/slot.rt:55:15
 ram-byte-at-requires-3 : tie.Need-ram-byte-at-requires-3
 ram-byte-at-requires-3 c κs = omega (arith, c .before .before .before .before .before .before .before .before .before .before .before .pre)
 
--- src/slot.rt:56:14
 ram-byte-at-requires-4 : tie.Need-ram-byte-at-requires-4
 ram-byte-at-requires-4 c κs = omega (arith, c .before .before .before .before .before .before .before .before .before .before .before .before .pre)
 
--- src/slot.rt:57:13
 flash-word-at-requires : tie.Need-flash-word-at-requires
 flash-word-at-requires c κs = omega (arith, c .before .before .before .before .before .before .before .before .before .before .before .before .before .pre)
 
--- src/slot.rt:38:1
 returns : tie.Need-returns
 unfolding rangesAt
 returns c =

@@ -1,23 +1,17 @@
+-- `hmt_c::slot::range_at` meets its contract. Assumes nothing.
 use borrow.Author.Needs.{needs}
 use Rattle.hmt_c.proofs.slot.range_at.Statement.{statement}
 use Rattle.hmt_c.proofs.slot.range_at.Tie as tie
-use Rattle.hmt_c.proofs.slot.range_at.Reads as reads
-use Rattle.hmt_c.proofs.slot.range_at.Lts as lts
-use Rattle.hmt_c.proofs.slot.flash_word_at.Reads as flash-word-at-reads
 
--- src/slot.rt:35:20
 flash-word-at-requires : tie.Need-flash-word-at-requires
 flash-word-at-requires c κs = search needs
 
--- src/slot.rt:35:70
 add-flash-word-at : tie.Need-add-flash-word-at
 add-flash-word-at c = search needs
 
--- src/slot.rt:35:50
 flash-word-at-requires-2 : tie.Need-flash-word-at-requires-2
 flash-word-at-requires-2 c κs = search needs
 
--- src/slot.rt:31:1
 returns : tie.Need-returns
 returns c = rw (c .before .flash-word-at .ensures, c .flash-word-at2 .ensures)
 

@@ -1,54 +1,40 @@
+-- `hmt_c::slot::write_run` meets its contract. Assumes nothing.
 use native.Mathlib.Omega.{arith}
 use lib.ListN.{length-set}
 use borrow.Author.Needs.{needs}
 use Rattle.hmt_c.proofs.slot.write_run.Statement.{statement}
 use Rattle.hmt_c.proofs.slot.write_run.Tie as tie
-use Rattle.hmt_c.proofs.slot.write_run.Reads as reads
-use Rattle.hmt_c.proofs.slot.write_run.Lts as lts
-use Rattle.hmt_c.proofs.slot.high.Reads as high-reads
-use Rattle.hmt_c.proofs.slot.low.Reads as low-reads
 
--- src/slot.rt:99:16
 low-requires : tie.Need-low-requires
 low-requires c κs = search needs
 
--- src/slot.rt:99:5
 slice-write-slot : tie.Need-slice-write-slot
 slice-write-slot c = search needs
 
--- src/slot.rt:100:16
 high-requires : tie.Need-high-requires
 high-requires c κs = search needs
 
--- src/slot.rt:100:5
 slice-write-slot-2 : tie.Need-slice-write-slot-2
 slice-write-slot-2 c = search needs
 
--- src/slot.rt:101:16
 low-requires-2 : tie.Need-low-requires-2
 low-requires-2 c κs = search needs
 
--- src/slot.rt:101:5
 slice-write-slot-3 : tie.Need-slice-write-slot-3
 slice-write-slot-3 c = search needs
 
--- src/slot.rt:102:16
 high-requires-2 : tie.Need-high-requires-2
 high-requires-2 c κs = search needs
 
--- src/slot.rt:102:5
 slice-write-slot-4 : tie.Need-slice-write-slot-4
 slice-write-slot-4 c = search needs
 
--- src/slot.rt:103:5
 slice-write-slot-5 : tie.Need-slice-write-slot-5
 slice-write-slot-5 c = simp length-set (omega arith)
 
--- src/slot.rt:95:1
 same-length : tie.Need-same-length
 same-length c = search needs
 
--- src/slot.rt:95:1
 returns : tie.Need-returns
 returns c = rw (c .before .before .before .low .ensures, c .before .before .high .ensures, c .before .low2 .ensures, c .high2 .ensures)
 

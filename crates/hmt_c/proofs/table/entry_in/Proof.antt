@@ -1,44 +1,34 @@
+-- `hmt_c::table::entry_in` meets its contract. Assumes nothing.
 use Prim.Native.Nat.{ℕ, _+_, _-_, _*_}
 use mathlib.Core.Path.{_≡_, sym, _∙_}
 use native.Mathlib.Omega.{arith}
-use lib.ListN.{List·getD-eq-default}
 use denote.Ref.{now}
 use Rattle.rules.specs.Code.{tableWords}
-use Rattle.rules.specs.Slot.{tableIn}
-use Rattle.laws.proofs.Slot.{length-wordsAt, getD-wordsAt}
+use Rattle.laws.proofs.Slot.{getD-wordsAt}
 use borrow.Author.Needs.{needs}
 use Rattle.hmt_c.proofs.table.entry_in.Statement.{statement}
 use Rattle.hmt_c.proofs.table.entry_in.Tie as tie
-use Rattle.hmt_c.proofs.table.entry_in.Reads as reads
-use Rattle.hmt_c.proofs.table.entry_in.Lts as lts
-use Rattle.hmt_c.proofs.slot.word_at.Reads as word-at-reads
 
--- src/table.rt:16:9
 returns : tie.Need-returns
 returns c = search needs
 
--- src/table.rt:20:9
 returns-2 : tie.Need-returns-2
-returns-2 c h = List·getD-eq-default (tableIn (now (c .before .before .before .before .before .before .before .args .table))) 0 (omega (arith, length-wordsAt (now (c .before .before .before .before .before .before .before .args .table)) 0 tableWords))
+returns-2 c = search needs
 
--- src/table.rt:22:38
 cast-word-at : tie.Need-cast-word-at
 cast-word-at c = search needs
 
--- src/table.rt:22:33
 mul-word-at : tie.Need-mul-word-at
 mul-word-at c = search needs
 
--- src/table.rt:22:5
 word-at-requires : tie.Need-word-at-requires
 word-at-requires c κs = search needs
 
--- src/table.rt:11:1
 returns-3 : tie.Need-returns-3
-returns-3 c h =
+returns-3 c l h =
     let at : ℕ = c .before .before .before .before .before .before .before .before .args .target .0 - c .before .before .before .before .before .before .before .before .args .jt .0 in
     let e : 0 + 2 * at ≡ 2 * at = omega arith in
-    (rw e at (getD-wordsAt (now (c .before .before .before .before .before .before .before .before .args .table)) 0 tableWords at (omega arith))) ∙ sym (c .word-at .ensures)
+    (rw e at (getD-wordsAt (now (c .before .before .before .before .before .before .before .before .args .table)) 0 tableWords at h)) ∙ sym (c .word-at .ensures)
 
 pub entry-in-spec : {M : Type 1} → statement M
 entry-in-spec =
