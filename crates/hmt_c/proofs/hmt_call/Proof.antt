@@ -101,7 +101,7 @@ returns-3 c =
     let ready = c .before .before .before .before .before .before .before .before .before .before .before .before .before .before .before .before .before .refusal-before .ensures .none (c .before .before .before .before .before .before .before .before .before .before .before .before .before .before .before .before .if2 .left) in
     let sizes : (wrongSize slot ram || not (eqb (length table) tableBytes)) ≡ false = rw (eq-eqb (length table) tableBytes (c .before .before .before .before .before .before .before .before .before .before .before .before .before .before .before .before .before .before .before .before .if1 .left), or-false (wrongSize slot ram)) (ready .sizes) in
     let word = rw (c .before .before .before .before .before .before .before .before .before .before .before .before .before .before .state-in .ensures, c .before .before .before .before .before .before .before .before .before .before .before .before .flash-word .ensures) at (c .before .before .before .before .before .before .before .before .before .before .before .entry-in .ensures) in
-    let gives : Gives (c .before .before .before .before .before .before .call-with .result) (c .before .before .before .before .before .before .call-with .last .0) (callOf s ram (tableIn table) (flashWord (args .target)) (flashWord (args .site)) (ramByte (args .pointer))) =
+    let gives : Gives (c .before .before .before .before .before .before .call-with .result) (c .before .before .before .before .before .before .call-with .last .1 .0) (callOf s ram (tableIn table) (flashWord (args .target)) (flashWord (args .site)) (ramByte (args .pointer))) =
     rw (call-by-word s ram (tableIn table) (flashWord (args .target)) (flashWord (args .site)) (ramByte (args .pointer)) (c .before .before .before .before .before .before .before .before .before .before .before .entry-in .result) (length-wordsAt table 0 tableWords) word)
     (rw (c .before .before .before .before .before .before .before .before .before .before .before .before .before .before .state-in .ensures, c .before .before .before .before .before .before .before .before .before .flash-word2 .ensures, c .before .before .before .before .before .before .before .before .flash-word3 .ensures, c .before .before .before .before .before .before .before .ram-byte .ensures) at (c .before .before .before .before .before .before .call-with .ensures)) in
     changed-to-c slot ram (λ i. omega (arith, c .before .before .before .before .before .before .before .before .before .before .before .before .before .before .before .before .before .before .before .before .before .before .slice-known2 .given i)) ready (wrongSize slot ram || not (eqb (length table) tableBytes))
