@@ -18,13 +18,13 @@ pub const CROSS_BYTES: u16 = 5;
 
 const LOCAL_TAG: u8 = 255;
 
-fn low(n: u16) -> u8
+pub fn low(n: u16) -> u8
     ensures { λ r. ⌜ r ≡ low n ⌝ }
 {
     (n % 256) as u8
 }
 
-fn high(n: u16) -> u8
+pub fn high(n: u16) -> u8
     ensures { λ r. ⌜ r ≡ high n ⌝ }
 {
     (n / 256) as u8

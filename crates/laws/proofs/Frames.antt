@@ -85,11 +85,11 @@ Fits (Local site) = site .0 < 65536
 Fits (Cross site bound d) = (site .0 < 65536) × (bound .0 < 65536) × (d < 256)
 Fits Damage = Unit
 
-abbrev AllBytes : List ℕ → Type 0
+abbrev pub AllBytes : List ℕ → Type 0
 AllBytes [] = Unit
 AllBytes (x ∷ xs) = (x < 256) × AllBytes xs
 
-byte-at : (xs : List ℕ) → AllBytes xs → (i : ℕ) → getD xs i 0 < 256
+pub byte-at : (xs : List ℕ) → AllBytes xs → (i : ℕ) → getD xs i 0 < 256
 byte-at [] h i = omega arith
 byte-at (x ∷ xs) h zero = h .0
 byte-at (x ∷ xs) h (suc i) = byte-at xs (h .1) i

@@ -12,6 +12,8 @@ pub mod Frames
 pub mod Parts
 pub mod Search
 pub mod Segments
+pub mod Slot
+pub mod ToC
 pub mod Rows
 pub mod SetUp
 pub mod Answers

@@ -10,3 +10,4 @@ pub mod Return
 pub mod Malloc
 pub mod Free
 pub mod Script
+pub mod Slot

@@ -1,13 +1,13 @@
 -- Call's table of refusals, as the code goes through it, and what holds where a call is done.
 -- Assumes nothing.
 use Prim.Native.Nat.{ℕ, _+_, _-_, _<_, _≤_}
-use mathlib.Core.Path.{_≡_, sym, _∙_}
+use mathlib.Core.Path.{_≡_, sym, ap, _∙_}
 use mathlib.Core.Bool.{Bool, true, false, not, _&&_, _||_, or-true}
 use mathlib.Core.List.{List}
 use native.Mathlib.Omega.{arith}
-use lib.ListN.{length}
+use lib.ListN.{length, getD, length-replicate, getD-replicate}
 use lib.Dec.{eqb, leb, ltb}
-use borrow.Author.Tests.{eq-eqb, ne-eqb, lt-ltb, le-ltb, le-leb, lt-leb, eqb-true, ltb-false, not-false}
+use borrow.Author.Tests.{eq-eqb, ne-eqb, lt-ltb, le-ltb, le-leb, lt-leb, eqb-true, ltb-false, leb-false, not-false}
 use Rattle.rules.specs.declared.RamByte.{RamByte}
 use Rattle.rules.specs.declared.FlashWord.{FlashWord}
 use Rattle.rules.specs.declared.State.{State}
@@ -15,12 +15,12 @@ use Rattle.rules.specs.declared.Answer.{Answer}
 use Rattle.rules.specs.declared.Answer.the-variants.{Done, Refused}
 use Rattle.rules.specs.declared.Refusal.the-variants.{WrongSize, BadState, SiteOutside, TargetOutside, PastTables, BadEntry, PointerOutside, PassesTop}
 use Rattle.rules.specs.Memory.{ramBytes}
-use Rattle.rules.specs.Code.{tableWords, rangeOf, inRange, isLocal, tableWord, calledDomain, entryOf, goodEntry, goodSite}
+use Rattle.rules.specs.Code.{tableWords, flashWord, rangeOf, inRange, isLocal, tableWord, calledDomain, entryOf, goodEntry, goodSite}
 use Rattle.rules.specs.State.{goodState}
-use Rattle.rules.specs.Call.{frameBytes, frameOf, pointerOutside, isCross, callAnswer}
-use Rattle.laws.proofs.Tests.{neither, right-false}
+use Rattle.rules.specs.Call.{frameBytes, frameOf, pointerOutside, isCross, callAnswer, callOf}
+use Rattle.laws.proofs.Tests.{byTest, neither, right-false}
 use Rattle.laws.proofs.Answers.{row-passed}
-use Rattle.runtime.specs.CallRows.{localRows, crossRows}
+use Rattle.runtime.specs.CallRows.{tableOf, localRows, crossRows}
 
 -- ---- rows of a local call
 
@@ -38,6 +38,20 @@ module _ (s : State) (t : FlashWord) where
   local-done h g = rw (h, le-ltb (s .config .top .0) (s .safepointer .0 + 3) (omega arith))
 
 -- ---- rows of a cross-domain call
+
+-- a table that has one word everywhere
+pub tableOf-length : (word : ℕ) → length (tableOf word) ≡ tableWords
+unfolding tableOf
+tableOf-length word = length-replicate tableWords word
+
+tableOf-at : (word i : ℕ) → i < tableWords → getD (tableOf word) i 0 ≡ word
+unfolding tableOf
+tableOf-at word i within = getD-replicate tableWords i word 0 within
+
+-- the entry that stands for the word of the target
+pub read-entry : (s : State) (word : ℕ) (t e : FlashWord) → tableWord (s .config) t < tableWords → e ≡ flashWord word
+    → e ≡ entryOf (s .config) (tableOf word) t
+read-entry s word t e within is = is ∙ sym (ap flashWord (tableOf-at word (tableWord (s .config) t) within))
 
 -- an entry e of domain d, as the code reads them
 module _ (s : State) (table : List ℕ) (t e : FlashWord) (is : e ≡ entryOf (s .config) table t) where
@@ -97,13 +111,13 @@ module _ (s : State) (table : List ℕ) (t : FlashWord) (p : RamByte) where
 -- ---- the whole table
 
 module _ (s : State) (ram table : List ℕ) (t site : FlashWord) (p : RamByte) where
+  pub wrong-table : (length table ≡ tableWords → ⊥) → Refused WrongSize ≡ callAnswer s ram table t site p
+  wrong-table h = rw (ne-eqb (length table) tableWords h, or-true)
+
   pub wrong-ram : (length ram ≡ ramBytes → ⊥) → Refused WrongSize ≡ callAnswer s ram table t site p
   wrong-ram h = rw (ne-eqb (length ram) ramBytes h)
 
   module _ (size : length ram ≡ ramBytes) where
-    pub wrong-table : (length table ≡ tableWords → ⊥) → Refused WrongSize ≡ callAnswer s ram table t site p
-    wrong-table h = rw (eq-eqb (length ram) ramBytes size, ne-eqb (length table) tableWords h)
-
     module _ (words : length table ≡ tableWords) where
       pub bad-state : goodState s ≡ false → Refused BadState ≡ callAnswer s ram table t site p
       bad-state h = rw (eq-eqb (length ram) ramBytes size, eq-eqb (length table) tableWords words, h)
@@ -161,3 +175,19 @@ call-done s ram table t site p answer v right done =
       within = within;
       fits = ltb-false (s .config .top .0) (s .safepointer .0 + length (frameBytes (frameOf s t site))) fits;
     }
+
+-- ---- one word of the table is enough
+
+-- every table of the right length that has this word at the target's offset gives what the table gives that has it everywhere
+module _ (s : State) (ram table : List ℕ) (t site : FlashWord) (p : RamByte) (word : ℕ) (words : length table ≡ tableWords)
+    (reads : s .config .jt .0 ≤ t .0 → tableWord (s .config) t < tableWords → getD table (tableWord (s .config) t) 0 ≡ word) where
+  answer-by-word : callAnswer s ram table t site p ≡ callAnswer s ram (tableOf word) t site p
+  answer-by-word =
+      let same : length table ≡ length (tableOf word) = words ∙ sym (tableOf-length word) in
+      byTest (isLocal (s .config) t) (λ h. rw (h, same)) (λ h.
+      byTest (leb tableWords (tableWord (s .config) t)) (λ l. rw (h, l, same)) (λ l.
+      let within : tableWord (s .config) t < tableWords = leb-false tableWords (tableWord (s .config) t) l in
+      rw (same, reads (ltb-false (t .0) (s .config .jt .0) h) within, tableOf-at word (tableWord (s .config) t) within)))
+
+  pub call-by-word : callOf s ram table t site p ≡ callOf s ram (tableOf word) t site p
+  call-by-word = rw answer-by-word

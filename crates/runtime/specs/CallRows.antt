@@ -3,7 +3,7 @@
 use Prim.Native.Nat.{ℕ, _+_}
 use mathlib.Core.Bool.{not}
 use mathlib.Core.List.{List}
-use lib.ListN.{length}
+use lib.ListN.{length, replicate}
 use lib.Dec.{leb, ltb}
 use Rattle.rules.specs.declared.RamByte.{RamByte}
 use Rattle.rules.specs.declared.FlashWord.{FlashWord}
@@ -15,6 +15,10 @@ use Rattle.rules.specs.declared.Refusal.the-variants.{TargetOutside, PastTables
 use Rattle.rules.specs.Code.{tableWords, rangeOf, inRange, tableWord, entryOf, goodEntry}
 use Rattle.rules.specs.Answers.{_⇒_∣_}
 use Rattle.rules.specs.Call.{frameBytes, pointerOutside}
+
+-- A call looks at one word of its table at most, so a table that has this word everywhere gives what each table gives that has it there.
+unfoldable pub tableOf : ℕ → List ℕ
+tableOf word = replicate tableWords word
 
 abbrev pub localRows : State → FlashWord → Answer
 localRows s t =

@@ -1,12 +1,12 @@
 // Section 5, call: which answer it gets.
 ghost use mathlib.Core.Path.{_≡_};
 ghost use mathlib.Core.Bool.{true};
-ghost use Prim.Native.Nat.{_≤_, _<_};
-ghost use lib.ListN.{length};
+ghost use Prim.Native.Nat.{_-_, _≤_, _<_};
+ghost use lib.ListN.{length, getD};
 ghost use Rattle.rules.specs.Code.{tableWords, tableWord, calledDomain};
 ghost use Rattle.rules.specs.State.{goodState};
 ghost use Rattle.rules.specs.Call.{callAnswer};
-ghost use Rattle.runtime.specs.CallRows.{localRows, crossRows};
+ghost use Rattle.runtime.specs.CallRows.{tableOf, localRows, crossRows};
 use crate::RAM_BYTES;
 use rules::Answer;
 use rules::Config;
@@ -15,9 +15,24 @@ use rules::RamByte;
 use rules::Refusal;
 use rules::State;
 
-const TABLE_WORDS: u16 = 1024;
+pub const TABLE_WORDS: u16 = 1024;
 
 const DOMAIN_WORDS: u16 = 128;
+
+// The word of a cross-domain call's target: the table is read at the target's offset from jt, and not where the offset is past it.
+pub fn word_at(table: &[u16], jt: FlashWord, target: FlashWord) -> u16
+    requires { ⌜ length (now table) ≡ tableWords ⌝ }
+    ensures { λ r. ⌜ (jt .0 ≤ target .0 → target .0 - jt .0 < tableWords → getD (now (table .entry)) (target .0 - jt .0) 0 ≡ r) ⌝ }
+{
+    if target.0 < jt.0 {
+        return 0;
+    }
+    let at = target.0 - jt.0;
+    if TABLE_WORDS <= at {
+        return 0;
+    }
+    table[at as usize]
+}
 
 // The domain that a cross-domain call calls.
 pub fn called_domain(config: Config, target: FlashWord) -> u8
@@ -43,16 +58,15 @@ fn local_answer(state: State, target: FlashWord) -> Answer
 }
 
 // The rows of a cross-domain call.
-fn cross_answer(state: State, table: &[u16], target: FlashWord, pointer: RamByte) -> Answer
-    requires { ⌜ (goodState state ≡ true) × (length (now table) ≡ tableWords) × (state .config .jt .0 ≤ target .0) ⌝ }
-    ensures { λ r. ⌜ r ≡ crossRows state (now (table .entry)) target pointer ⌝ }
+fn cross_answer(state: State, word: u16, target: FlashWord, pointer: RamByte) -> Answer
+    requires { ⌜ (goodState state ≡ true) × (state .config .jt .0 ≤ target .0) ⌝ }
+    ensures { λ r. ⌜ r ≡ crossRows state (tableOf word) target pointer ⌝ }
 {
     let config = state.config;
-    let word = target.0 - config.jt.0;
-    if TABLE_WORDS <= word {
+    if TABLE_WORDS <= target.0 - config.jt.0 {
         return Answer::Refused(Refusal::PastTables);
     }
-    let entry = address::entry(table[word as usize]);
+    let entry = address::entry(word);
     if entry.0 == 0 {
         return Answer::Refused(Refusal::BadEntry);
     }
@@ -74,17 +88,14 @@ fn cross_answer(state: State, table: &[u16], target: FlashWord, pointer: RamByte
 pub fn answer(
     state: State,
     ram: &[u8],
-    table: &[u16],
+    word: u16,
     target: FlashWord,
     site: FlashWord,
     pointer: RamByte,
 ) -> Answer
-    ensures { λ r. ⌜ r ≡ callAnswer state (now (ram .entry)) (now (table .entry)) target site pointer ⌝ }
+    ensures { λ r. ⌜ r ≡ callAnswer state (now (ram .entry)) (tableOf word) target site pointer ⌝ }
 {
     if ram.len() != RAM_BYTES {
-        return Answer::Refused(Refusal::WrongSize);
-    }
-    if table.len() != TABLE_WORDS as usize {
         return Answer::Refused(Refusal::WrongSize);
     }
     if !good::good_state(state) {
@@ -97,5 +108,5 @@ pub fn answer(
     if target.0 < config.jt.0 {
         return local_answer(state, target);
     }
-    cross_answer(state, table, target, pointer)
+    cross_answer(state, word, target, pointer)
 }

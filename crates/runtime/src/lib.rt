@@ -3,6 +3,7 @@ ghost use Rattle.rules.specs.Answers.{Gives};
 ghost use Rattle.rules.specs.SetUp.{setUpOf};
 ghost use Rattle.rules.specs.Store.{storeOf};
 ghost use Rattle.rules.specs.Call.{callOf};
+ghost use Rattle.runtime.specs.CallRows.{tableOf};
 ghost use Rattle.rules.specs.Return.{returnOf};
 ghost use Rattle.rules.specs.Malloc.{mallocOf};
 ghost use Rattle.rules.specs.Free.{freeOf, changeOf};
@@ -67,18 +68,19 @@ pub fn store(state: State, ram: &mut [u8], address: RamByte, byte: u8) -> Outcom
     }
 }
 
-// A frame is written to the safe stack area, which is lent to the frame writer, and to no other byte.
-pub fn call(
+// A call with the word of its target already read from the table; a local call, or one past the tables, reads none. A frame is written
+// to the safe stack area, which is lent to the frame writer, and to no other byte.
+pub fn call_with(
     state: State,
     ram: &mut [u8],
-    table: &[u16],
+    word: u16,
     target: FlashWord,
     site: FlashWord,
     pointer: RamByte,
 ) -> Outcome
-    ensures { λ r. ⌜ Gives r (now (ram .exit)) (callOf state (now (ram .entry)) (now (table .entry)) target site pointer) ⌝ }
+    ensures { λ r. ⌜ Gives r (now (ram .exit)) (callOf state (now (ram .entry)) (tableOf word) target site pointer) ⌝ }
 {
-    let answer = call_check::answer(state, ram, table, target, site, pointer);
+    let answer = call_check::answer(state, ram, word, target, site, pointer);
     match answer {
         Answer::Done(_) => {
             let config = state.config;
@@ -107,6 +109,27 @@ pub fn call(
         }
         Answer::Refused(_) => return Outcome { answer, state },
     }
+}
+
+pub fn call(
+    state: State,
+    ram: &mut [u8],
+    table: &[u16],
+    target: FlashWord,
+    site: FlashWord,
+    pointer: RamByte,
+) -> Outcome
+    ensures { λ r. ⌜ Gives r (now (ram .exit)) (callOf state (now (ram .entry)) (now (table .entry)) target site pointer) ⌝ }
+{
+    if table.len() != call_check::TABLE_WORDS as usize {
+        return Outcome {
+            answer: Answer::Refused(Refusal::WrongSize),
+            state,
+        };
+    }
+    let config = state.config;
+    let word = call_check::word_at(table, config.jt, target);
+    call_with(state, ram, word, target, site, pointer)
 }
 
 // The frame's bytes stay in RAM.

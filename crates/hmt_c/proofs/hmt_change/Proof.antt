@@ -1,0 +1,79 @@
+-- `hmt_c::hmt_change` meets its contract. Assumes nothing.
+use Prim.Native.Nat.{ℕ}
+use mathlib.Core.List.{List}
+use native.Mathlib.Omega.{arith}
+use denote.Ref.{now}
+use Rattle.rules.specs.declared.RamByte.{RamByte}
+use Rattle.rules.specs.Memory.{blockOf, setCodes, segmentCodes}
+use Rattle.rules.specs.State.{ramByte}
+use Rattle.rules.specs.Free.{blocksAt, changeAnswer, changeOf}
+use Rattle.rules.specs.Slot.{stateIn}
+use Rattle.laws.proofs.ToC.{right-size, kept-to-c}
+use borrow.Author.Needs.{needs}
+use Rattle.hmt_c.proofs.hmt_change.Statement.{statement}
+use Rattle.hmt_c.proofs.hmt_change.Tie as tie
+
+refusal-before-requires : tie.Need-refusal-before-requires
+refusal-before-requires c κs = search needs
+
+same-length : tie.Need-same-length
+same-length c = search needs
+
+same-length-2 : tie.Need-same-length-2
+same-length-2 c = search needs
+
+returns : tie.Need-returns
+returns c =
+    let args = c .before .before .before .before .before .before .args in
+    let slot : List ℕ = now (args .slot) in
+    let ram : List ℕ = now (args .ram) in
+    c .before .refusal-before .ensures .some (c .if1 .taken) (changeOf (stateIn slot) ram (ramByte (args .address)) (args .domain))
+
+state-in-requires : tie.Need-state-in-requires
+state-in-requires c κs =
+    let args = c .before .before .before .before .before .before .before .args in
+    let slot : List ℕ = now (args .slot) in
+    let ram : List ℕ = now (args .ram) in
+    right-size slot ram (c .before .before .refusal-before .ensures .none (c .before .if1 .left) .sizes) .0
+
+ram-byte-requires : tie.Need-ram-byte-requires
+ram-byte-requires c κs = search needs
+
+change-requires : tie.Need-change-requires
+change-requires c κs = search needs
+
+packed-requires : tie.Need-packed-requires
+packed-requires c κs = search needs
+
+same-length-3 : tie.Need-same-length-3
+same-length-3 c = search needs
+
+same-length-4 : tie.Need-same-length-4
+same-length-4 c = search needs
+
+returns-2 : tie.Need-returns-2
+returns-2 c =
+    let args = c .before .before .before .before .before .before .before .before .before .before .before .before .before .before .args in
+    let slot : List ℕ = now (args .slot) in
+    let ram : List ℕ = now (args .ram) in
+    let a : RamByte = ramByte (args .address) in
+    let ready = c .before .before .before .before .before .before .before .before .before .refusal-before .ensures .none (c .before .before .before .before .before .before .before .before .if1 .left) in
+    kept-to-c slot ram (λ i. omega (arith, c .before .before .before .before .before .before .before .before .before .before .before .before .slice-known2 .given i)) ready (changeAnswer (stateIn slot) ram a (args .domain)) _
+    (setCodes (stateIn slot .config .bot) ram (blockOf (stateIn slot .config .bot) a) (segmentCodes (args .domain) (blocksAt (stateIn slot) ram a)))
+    (c .before .before .before .change .result) (c .packed .result) (rw (c .before .before .before .before .before .before .state-in .ensures, c .before .before .before .before .ram-byte .ensures) at (c .before .before .before .change .ensures)) (c .packed .ensures)
+
+pub hmt-change-spec : {M : Type 1} → statement M
+hmt-change-spec =
+    tie.close
+    (tie.spec
+    refusal-before-requires
+    same-length
+    same-length-2
+    returns
+    state-in-requires
+    ram-byte-requires
+    change-requires
+    packed-requires
+    same-length-3
+    same-length-4
+    returns-2)

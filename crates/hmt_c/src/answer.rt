@@ -1,0 +1,20 @@
+// The answer as one number of 32 bits: the answer's number times 65536 plus its value.
+ghost use mathlib.Core.Path.{_≡_};
+ghost use Rattle.rules.specs.Slot.{packed};
+ghost use Rattle.rules.specs.declared.Answer.the-variants.{Refused};
+use rules::Answer;
+use rules::Refusal;
+use runtime::numbers::number_of;
+use runtime::numbers::value_of;
+
+pub fn packed(answer: Answer) -> u32
+    ensures { λ r. ⌜ r ≡ packed answer ⌝ }
+{
+    number_of(answer) as u32 * 65536 + value_of(answer) as u32
+}
+
+pub fn refused(refusal: Refusal) -> u32
+    ensures { λ r. ⌜ r ≡ packed (Refused refusal) ⌝ }
+{
+    packed(Answer::Refused(refusal))
+}

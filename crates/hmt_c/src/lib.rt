@@ -1,0 +1,152 @@
+// Document 02, Ask 1: set-up and the six operations, callable from C on numbers and byte slices. The state sits in a slot of 48 bytes.
+ghost use mathlib.Core.Path.{_≡_};
+ghost use Rattle.rules.specs.Code.{flashWord};
+ghost use Rattle.rules.specs.State.{ramByte};
+ghost use Rattle.rules.specs.Slot.{GivesToC, wrongSize, cSetUpOf, cStoreOf, cCallOf, cReturnOf, cMallocOf, cFreeOf, cChangeOf};
+ghost use Rattle.laws.proofs.ToC.{Before};
+use rules::Refusal;
+
+mod answer;
+mod operands;
+mod slot;
+mod table;
+
+use answer::packed;
+use answer::refused;
+use operands::flash_word;
+use operands::ram_byte;
+
+const RAM_BYTES: usize = 4096;
+
+const SLOT_BYTES: usize = 48;
+
+const TABLE_BYTES: usize = 2048;
+
+fn wrong_size(ram: &[u8], slot: &[u8]) -> bool
+    ensures { λ r. ⌜ r ≡ wrongSize (now (slot .entry)) (now (ram .entry)) ⌝ }
+{
+    if slot.len() != SLOT_BYTES {
+        return true;
+    }
+    ram.len() != RAM_BYTES
+}
+
+// The refusal that an operation gives before it looks at the state, 0 for none.
+fn refusal_before(ram: &[u8], slot: &[u8]) -> u32
+    ensures { λ r. ⌜ Before (now (slot .entry)) (now (ram .entry)) r ⌝ }
+{
+    if wrong_size(ram, slot) {
+        return refused(Refusal::WrongSize);
+    }
+    if slot[47] != 0 {
+        return refused(Refusal::BadState);
+    }
+    0
+}
+
+#[no_mangle]
+pub extern "C" fn hmt_set_up(ram: &mut [u8], slot: &mut [u8]) -> u32
+    ensures { λ r. ⌜ GivesToC r (now (slot .exit)) (now (ram .exit)) (cSetUpOf (now (slot .entry)) (now (ram .entry))) ⌝ }
+{
+    if wrong_size(ram, slot) {
+        return refused(Refusal::WrongSize);
+    }
+    let outcome = runtime::set_up(slot::config_in(slot), ram);
+    slot::set_up(slot, outcome)
+}
+
+#[no_mangle]
+pub extern "C" fn hmt_store(ram: &mut [u8], slot: &mut [u8], address: u16, byte: u8) -> u32
+    ensures { λ r. ⌜ GivesToC r (now (slot .exit)) (now (ram .exit)) (cStoreOf (now (slot .entry)) (now (ram .entry)) (ramByte address) byte) ⌝ }
+{
+    let refusal = refusal_before(ram, slot);
+    if refusal != 0 {
+        return refusal;
+    }
+    let outcome = runtime::store(slot::state_in(slot), ram, ram_byte(address), byte);
+    let given = outcome.answer;
+    packed(given)
+}
+
+#[no_mangle]
+pub extern "C" fn hmt_call(
+    ram: &mut [u8],
+    slot: &mut [u8],
+    table: &[u8],
+    target: u16,
+    site: u16,
+    pointer: u16,
+) -> u32
+    ensures { λ r. ⌜ GivesToC r (now (slot .exit)) (now (ram .exit)) (cCallOf (now (slot .entry)) (now (ram .entry)) (now (table .entry)) (flashWord target) (flashWord site) (ramByte pointer)) ⌝ }
+{
+    if table.len() != TABLE_BYTES {
+        return refused(Refusal::WrongSize);
+    }
+    let refusal = refusal_before(ram, slot);
+    if refusal != 0 {
+        return refusal;
+    }
+    let state = slot::state_in(slot);
+    let config = state.config;
+    let word = table::entry_in(table, config.jt, flash_word(target));
+    let outcome = runtime::call_with(
+        state,
+        ram,
+        word,
+        flash_word(target),
+        flash_word(site),
+        ram_byte(pointer),
+    );
+    slot::change(slot, outcome)
+}
+
+#[no_mangle]
+pub extern "C" fn hmt_return(ram: &mut [u8], slot: &mut [u8]) -> u32
+    ensures { λ r. ⌜ GivesToC r (now (slot .exit)) (now (ram .exit)) (cReturnOf (now (slot .entry)) (now (ram .entry))) ⌝ }
+{
+    let refusal = refusal_before(ram, slot);
+    if refusal != 0 {
+        return refusal;
+    }
+    let outcome = runtime::ret(slot::state_in(slot), ram);
+    slot::change(slot, outcome)
+}
+
+#[no_mangle]
+pub extern "C" fn hmt_malloc(ram: &mut [u8], slot: &mut [u8], size: u16) -> u32
+    ensures { λ r. ⌜ GivesToC r (now (slot .exit)) (now (ram .exit)) (cMallocOf (now (slot .entry)) (now (ram .entry)) size) ⌝ }
+{
+    let refusal = refusal_before(ram, slot);
+    if refusal != 0 {
+        return refusal;
+    }
+    let outcome = runtime::malloc(slot::state_in(slot), ram, size);
+    let given = outcome.answer;
+    packed(given)
+}
+
+#[no_mangle]
+pub extern "C" fn hmt_free(ram: &mut [u8], slot: &mut [u8], address: u16) -> u32
+    ensures { λ r. ⌜ GivesToC r (now (slot .exit)) (now (ram .exit)) (cFreeOf (now (slot .entry)) (now (ram .entry)) (ramByte address)) ⌝ }
+{
+    let refusal = refusal_before(ram, slot);
+    if refusal != 0 {
+        return refusal;
+    }
+    let outcome = runtime::free(slot::state_in(slot), ram, ram_byte(address));
+    let given = outcome.answer;
+    packed(given)
+}
+
+#[no_mangle]
+pub extern "C" fn hmt_change(ram: &mut [u8], slot: &mut [u8], address: u16, domain: u8) -> u32
+    ensures { λ r. ⌜ GivesToC r (now (slot .exit)) (now (ram .exit)) (cChangeOf (now (slot .entry)) (now (ram .entry)) (ramByte address) domain) ⌝ }
+{
+    let refusal = refusal_before(ram, slot);
+    if refusal != 0 {
+        return refusal;
+    }
+    let outcome = runtime::change(slot::state_in(slot), ram, ram_byte(address), domain);
+    let given = outcome.answer;
+    packed(given)
+}
