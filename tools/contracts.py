@@ -8,6 +8,7 @@ are really written: it reads each crate's sources and passes a public function i
     now (x .exit) ≡ ..                  a place that was lent to be written
     Gives r (now (x .exit)) ..          both, and
     GivesToC r (now (x .exit)) (now (y .exit)) ..
+    Printed (now (x .entry)) (now (x .exit)) .. r       the script's text, by `printed-once` of crates/script
 
 if what stands behind names nothing that the function leaves (but a result that the product has determined), if the result and every
 place lent with &mut are determined, and if uniqueness has a field about the rule that a `Gives` or `GivesToC` names.
@@ -98,8 +99,11 @@ def names(text, name):
 
 def judge(part, result, known, fields):
     """What one part of a contract determines, with the form it has; known is what the parts before it determine."""
+    text = re.fullmatch(rf"Printed \(now \((\w+) \.entry\)\) \(now \(\1 \.exit\)\) (.*) {result}", part)
     exits = re.match(r"(Gives|GivesToC) (\w+)((?: \(now \(\w+ \.exit\)\))+) (.*)$", part)
-    if exits:
+    if text:
+        form, settled, value = "Printed", {result, text.group(1)}, bare(text.group(2))
+    elif exits:
         form, left, value = exits.group(1), re.findall(r"now \((\w+) \.exit\)", exits.group(3)), exits.group(4)
         if exits.group(2) != result or len(left) != {"Gives": 1, "GivesToC": 2}[form]:
             raise ValueError(f"`{part}` is not what {form} is about")

@@ -2,7 +2,8 @@
 -- Assumes nothing.
 use mathlib.Core.Path.{sym, ap, _∙_}
 use Rattle.rules.specs.Answers.{Given}
-use Rattle.promises.specs.Uniqueness.{Only, OnlyBoth, Determined, Uniqueness}
+use Rattle.rules.specs.Slot.{GivenToC}
+use Rattle.promises.specs.Uniqueness.{Only, OnlyBoth, Determined, DeterminedToC, Uniqueness}
 
 only : {A : Type 0} (v : A) → Only v
 only v r r′ e e′ = e ∙ sym e′
@@ -15,6 +16,9 @@ determined g r r′ ram ram′ (a, s, m) (a′, s′, m′) =
     let answer = a ∙ sym a′ in
     let state = s ∙ sym s′ in
     ((λ i. record { answer = answer i; state = state i }), m ∙ sym m′)
+
+determined-to-c : (g : GivenToC) → DeterminedToC g
+determined-to-c g r r′ slot slot′ ram ram′ (a, s, m) (a′, s′, m′) = (a ∙ sym a′, s ∙ sym s′, m ∙ sym m′)
 
 pub uniqueness : Uniqueness
 uniqueness =
@@ -30,4 +34,11 @@ uniqueness =
       change = λ s ram a d. determined _;
       «number_of» = λ a. only _;
       «value_of» = λ a. only _;
+      «hmt_set_up» = λ slot ram. determined-to-c _;
+      «hmt_store» = λ slot ram a b. determined-to-c _;
+      «hmt_call» = λ slot ram table t site p. determined-to-c _;
+      «hmt_return» = λ slot ram. determined-to-c _;
+      «hmt_malloc» = λ slot ram size. determined-to-c _;
+      «hmt_free» = λ slot ram a. determined-to-c _;
+      «hmt_change» = λ slot ram a d. determined-to-c _;
     }

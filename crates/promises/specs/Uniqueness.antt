@@ -18,6 +18,7 @@ use Rattle.rules.specs.Call.{callOf}
 use Rattle.rules.specs.Return.{returnOf}
 use Rattle.rules.specs.Malloc.{mallocOf}
 use Rattle.rules.specs.Free.{freeOf, changeOf}
+use Rattle.rules.specs.Slot.{GivenToC, GivesToC, cSetUpOf, cStoreOf, cCallOf, cReturnOf, cMallocOf, cFreeOf, cChangeOf}
 
 -- a contract of the form `r ≡ v`, or `now (x .exit) ≡ v`: what it is about can be v alone
 abbrev pub Only : {A : Type 0} → A → Type 0
@@ -30,6 +31,12 @@ OnlyBoth {A} {B} v w = (r r′ : A) (x x′ : B) → (r ≡ v) × (x ≡ w r) �
 -- one of the form `Gives r (now (ram .exit)) g`: answer, state and all of RAM
 abbrev pub Determined : Given → Type 0
 Determined g = (r r′ : Outcome) (ram ram′ : List ℕ) → Gives r ram g → Gives r′ ram′ g → (r ≡ r′) × (ram ≡ ram′)
+
+-- one of the form `GivesToC r (now (slot .exit)) (now (ram .exit)) g`: answer, all of the slot and all of RAM
+abbrev pub DeterminedToC : GivenToC → Type 0
+DeterminedToC g =
+    (r r′ : ℕ) (slot slot′ ram ram′ : List ℕ) → GivesToC r slot ram g → GivesToC r′ slot′ ram′ g
+    → (r ≡ r′) × (slot ≡ slot′) × (ram ≡ ram′)
 
 pub record Uniqueness : Type 1 where
   -- each form
@@ -45,3 +52,11 @@ pub record Uniqueness : Type 1 where
   pub change : (s : State) (ram : List ℕ) (a : RamByte) (d : ℕ) → Determined (changeOf s ram a d)
   pub «number_of» : (a : Answer) → Only (numberOf a)
   pub «value_of» : (a : Answer) → Only (valueOf a)
+  -- those called from C
+  pub «hmt_set_up» : (slot ram : List ℕ) → DeterminedToC (cSetUpOf slot ram)
+  pub «hmt_store» : (slot ram : List ℕ) (a : RamByte) (b : ℕ) → DeterminedToC (cStoreOf slot ram a b)
+  pub «hmt_call» : (slot ram table : List ℕ) (t site : FlashWord) (p : RamByte) → DeterminedToC (cCallOf slot ram table t site p)
+  pub «hmt_return» : (slot ram : List ℕ) → DeterminedToC (cReturnOf slot ram)
+  pub «hmt_malloc» : (slot ram : List ℕ) (size : ℕ) → DeterminedToC (cMallocOf slot ram size)
+  pub «hmt_free» : (slot ram : List ℕ) (a : RamByte) → DeterminedToC (cFreeOf slot ram a)
+  pub «hmt_change» : (slot ram : List ℕ) (a : RamByte) (d : ℕ) → DeterminedToC (cChangeOf slot ram a d)
