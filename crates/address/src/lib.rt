@@ -99,8 +99,8 @@ pub fn zero_word() -> FlashWord
     FlashWord(0)
 }
 
-// Sixteen bits of a frame, low byte first.
-fn joined(low: u8, high: u8) -> u16
+// Sixteen bits of a frame or of a script, low byte first.
+pub fn joined(low: u8, high: u8) -> u16
     ensures { λ r. ⌜ r ≡ low + 256 * high ⌝ }
 {
     low as u16 + 256 * (high as u16)
