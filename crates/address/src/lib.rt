@@ -1,9 +1,8 @@
 // The three kinds of address, and every way from a number or from one kind to another: no other file makes one from a number, but
 // for those where numbers come in from outside. A block is 8 bytes here and nowhere else in the code.
 ghost use mathlib.Core.Path.{_≡_};
-ghost use Prim.Native.Nat.{suc, _+_, _-_, _*_, _≤_, _<_};
-ghost use lib.Dec.{eqb};
-ghost use Rattle.rules.specs.Memory.{blockBytes, startOf, blockOf, isMultiple, blocksFor, ramBytes};
+ghost use Prim.Native.Nat.{_+_, _-_, _*_, _≤_, _<_};
+ghost use Rattle.rules.specs.Memory.{startOf, blockOf, isMultiple, blocksFor, ramBytes};
 ghost use Rattle.rules.specs.Code.{flashWord};
 ghost use Rattle.rules.specs.State.{ramByte};
 ghost use Rattle.rules.specs.Malloc.{block};
@@ -99,7 +98,7 @@ pub fn zero_word() -> FlashWord
     FlashWord(0)
 }
 
-// Sixteen bits, low byte first.
+// Sixteen bits of a frame or of a script, low byte first.
 pub fn joined(low: u8, high: u8) -> u16
     ensures { λ r. ⌜ r ≡ low + 256 * high ⌝ }
 {

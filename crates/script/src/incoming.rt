@@ -1,5 +1,5 @@
-// Where numbers come in from outside: sixteen bits of a script, low byte first, as a number or as one of the kinds of address. No
-// other file of this crate makes an address.
+// Where numbers come in from outside: sixteen bits of a script, low byte first, as a number or as one of the kinds of address. The
+// addresses are made by crate `address`; this crate makes none itself.
 ghost use mathlib.Core.Path.{_≡_};
 ghost use Prim.Native.Nat.{_+_, _<_};
 ghost use lib.ListN.{length};
@@ -13,7 +13,7 @@ pub fn word_at(input: &[u8], at: usize) -> u16
     requires { ⌜ at + 1 < length (now input) ⌝ }
     ensures { λ r. ⌜ r ≡ wordAt (now (input .entry)) at ⌝ }
 {
-    input[at] as u16 + 256 * (input[at + 1] as u16)
+    address::joined(input[at], input[at + 1])
 }
 
 pub fn ram_byte_at(input: &[u8], at: usize) -> RamByte
