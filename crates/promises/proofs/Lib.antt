@@ -16,6 +16,7 @@ pub mod Steps
 pub mod Change
 pub mod Keeping
 pub mod Theorem
+pub mod FromC
 pub mod Incident
 pub mod Instance
 -- demand 2 and section 10

@@ -20,6 +20,7 @@ pub mod History
 pub mod Calls
 pub mod Ledger
 pub mod Promise
+pub mod FromC
 pub mod Incident
 -- demand 2 and section 10
 pub mod Room
