@@ -133,8 +133,8 @@ module _ (slot ram : List ℕ) (held : slot ≡ slotOf (stateIn slot)) where
       byTest (eqb (length table) tableBytes)
       (λ h. rw (h, or-false (wrongSize slot ram)) (plain (rule.call (tableIn table) (flashWord t) (flashWord site) (ramByte p))))
       (λ h.
-        rw (h, or-true (wrongSize slot ram))
-        (handed true (stateIn slot) slot ram (rule.call [] (flashWord t) (flashWord site) (ramByte p)) held eight (λ w. rw or-true)))
+      rw (h, or-true (wrongSize slot ram))
+      (handed true (stateIn slot) slot ram (rule.call [] (flashWord t) (flashWord site) (ramByte p)) held eight (λ w. rw or-true)))
   same-step return = plain rule.return
   same-step (malloc size) = plain (rule.malloc size)
   same-step (free a) = plain (rule.free (ramByte a))
@@ -170,10 +170,10 @@ module _ (slot ram : List ℕ) (h : cSetUpOf slot ram .answer ≡ 0) where
 table-words : (table : List ℕ) → Bytes table → (i : ℕ) → getD (tableFromC table) i 0 < 65536
 table-words table bytes i =
     byTest (eqb (length table) tableBytes) (λ h. rw h (byTest (ltb i tableWords) (λ l.
-      let within : i < tableWords = ltb-true i tableWords l in
-      rw (getD-wordsAt table 0 tableWords i within) (omega (arith, bytes (0 + 2 * i), bytes (0 + 2 * i + 1)))) (λ l.
-      let past : length (tableIn table) ≤ i = omega (arith, ltb-false i tableWords l, length-wordsAt table 0 tableWords) in
-      rw (List·getD-eq-default (tableIn table) 0 past) (omega arith)))) (λ h. rw h (omega arith))
+    let within : i < tableWords = ltb-true i tableWords l in
+    rw (getD-wordsAt table 0 tableWords i within) (omega (arith, bytes (0 + 2 * i), bytes (0 + 2 * i + 1)))) (λ l.
+    let past : length (tableIn table) ≤ i = omega (arith, ltb-false i tableWords l, length-wordsAt table 0 tableWords) in
+    rw (List·getD-eq-default (tableIn table) 0 past) (omega arith)))) (λ h. rw h (omega arith))
 
 fits : (o : CallFromC) → Wide o → Fits (operationOf o)
 fits (store a b) w = w
