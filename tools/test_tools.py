@@ -454,7 +454,9 @@ class Tools(unittest.TestCase):
         for folder in ("crates/hmt", "bin"):
             (self.folder / folder).mkdir(parents=True)
         source = self.file("crates/hmt/main.rt", "")
-        stand_in = self.file("bin/rt", '#!/bin/sh\necho "checked: $*"\ntest ! -e refuse || exit 1\n'
+        # what the program under test asks of rt goes to the real one
+        stand_in = self.file("bin/rt", f'#!/bin/sh\ntest "$1" != doc || exec "{shutil.which("rt")}" doc\n'
+                             'echo "checked: $*"\ntest ! -e refuse || exit 1\n'
                              'test -e target/bin/hmt || { mkdir -p target/bin; cp program target/bin/hmt; }\n')
         runner = self.file("tools/hmt", '#!/bin/sh\nexec "$(dirname "$0")/../target/bin/hmt"\n')
         for path in (stand_in, runner, self.file("program", f'#!/bin/sh\nexec "{PROGRAM}"\n')):
