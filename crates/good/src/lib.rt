@@ -36,21 +36,20 @@ pub fn good_config(config: Config) -> bool
 pub fn good_state(state: State) -> bool
     ensures { λ r. ⌜ r ≡ goodState state ⌝ }
 {
-    let config = state.config;
     if TRUSTED < state.domain {
         return false;
     }
     if address::RAM_BYTES <= state.bound.0 {
         return false;
     }
-    if state.bound.0 + 1 < config.top.0 {
+    if state.bound.0 + 1 < state.config.top.0 {
         return false;
     }
-    if state.safepointer.0 < config.safe.0 {
+    if state.safepointer.0 < state.config.safe.0 {
         return false;
     }
-    if config.top.0 < state.safepointer.0 {
+    if state.config.top.0 < state.safepointer.0 {
         return false;
     }
-    good_config(config)
+    good_config(state.config)
 }

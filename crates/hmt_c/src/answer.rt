@@ -5,16 +5,18 @@ ghost use Rattle.rules.specs.declared.Answer.the-variants.{Refused};
 use rules::Answer;
 use rules::Refusal;
 use runtime::numbers::number_of;
-use runtime::numbers::value_of;
-
-pub fn packed(answer: Answer) -> u32
-    ensures { λ r. ⌜ r ≡ packed answer ⌝ }
-{
-    number_of(answer) as u32 * 65536 + value_of(answer) as u32
-}
 
 pub fn refused(refusal: Refusal) -> u32
     ensures { λ r. ⌜ r ≡ packed (Refused refusal) ⌝ }
 {
-    packed(Answer::Refused(refusal))
+    number_of(Answer::Refused(refusal)) as u32 * 65536
+}
+
+pub fn packed(answer: Answer) -> u32
+    ensures { λ r. ⌜ r ≡ packed answer ⌝ }
+{
+    match answer {
+        Answer::Done(value) => value as u32,
+        Answer::Refused(refusal) => refused(refusal),
+    }
 }

@@ -48,7 +48,7 @@ fn local_answer(state: State, target: FlashWord) -> Answer
     ensures { λ r. ⌜ r ≡ localRows state target ⌝ }
 {
     let config = state.config;
-    if !crate::code_ranges::in_code(config, state.domain, target) {
+    if !crate::code_ranges::in_code(state.config, state.domain, target) {
         return Answer::Refused(Refusal::TargetOutside);
     }
     if config.top.0 - state.safepointer.0 < frames::LOCAL_BYTES {
@@ -70,7 +70,7 @@ fn cross_answer(state: State, word: u16, target: FlashWord, pointer: RamByte) ->
     if entry.0 == 0 {
         return Answer::Refused(Refusal::BadEntry);
     }
-    if !crate::code_ranges::in_code(config, called_domain(config, target), entry) {
+    if !crate::code_ranges::in_code(state.config, called_domain(config, target), entry) {
         return Answer::Refused(Refusal::BadEntry);
     }
     if pointer.0 < config.top.0 - 1 {
@@ -102,7 +102,7 @@ pub fn answer(
         return Answer::Refused(Refusal::BadState);
     }
     let config = state.config;
-    if !crate::code_ranges::in_code(config, state.domain, site) {
+    if !crate::code_ranges::in_code(state.config, state.domain, site) {
         return Answer::Refused(Refusal::SiteOutside);
     }
     if target.0 < config.jt.0 {

@@ -50,13 +50,13 @@ pub fn judged_frame(state: State, ram: &[u8]) -> Frame
     let frame = top_frame(state, ram);
     match frame {
         Frame::Local(site) => {
-            if !crate::code_ranges::in_code(config, state.domain, site) {
+            if !crate::code_ranges::in_code(state.config, state.domain, site) {
                 return Frame::Damage;
             }
             return frame;
         }
         Frame::Cross(site, bound, domain) => {
-            if !crate::code_ranges::in_code(config, domain, site) {
+            if !crate::code_ranges::in_code(state.config, domain, site) {
                 return Frame::Damage;
             }
             if bound.0 < state.bound.0 {

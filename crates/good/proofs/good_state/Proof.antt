@@ -29,7 +29,7 @@ good-config-requires c κs = search needs
 returns-6 : tie.Need-returns-6
 returns-6 c =
     c .good-config .ensures
-    ∙ config-decides _ (c .before .before .before .before .before .before .before .before .before .before .before .before .if1 .left) (c .before .before .before .before .before .before .before .before .before .before .if2 .left) (c .before .before .before .before .before .before .before .if3 .left) (c .before .before .before .before .if4 .left) (c .before .if5 .left)
+    ∙ config-decides _ (c .before .before .before .before .before .before .before .before .before .before .if1 .left) (c .before .before .before .before .before .before .before .before .if2 .left) (c .before .before .before .before .before .if3 .left) (c .before .before .before .if4 .left) (c .before .if5 .left)
 
 pub good-state-spec : {M : Type 1} → statement M
 good-state-spec =
