@@ -1,35 +1,30 @@
 // Set-up and the six operations of document 01. Each gives what its rule gives, refusals included.
+ghost use mathlib.Core.Path.{_≡_};
 ghost use Rattle.rules.specs.Answers.{Gives};
+ghost use Rattle.runtime.specs.FirstRows.{firstRows};
 ghost use Rattle.rules.specs.SetUp.{setUpOf};
 ghost use Rattle.rules.specs.Store.{storeOf};
 ghost use Rattle.rules.specs.Call.{callOf};
-ghost use Rattle.runtime.specs.CallRows.{tableOf};
 ghost use Rattle.rules.specs.Return.{returnOf};
 ghost use Rattle.rules.specs.Malloc.{mallocOf};
 ghost use Rattle.rules.specs.Free.{freeOf, changeOf};
 
-mod call_check;
-mod code_ranges;
-mod malloc_check;
 pub mod numbers;
-mod places;
-mod return_check;
-mod segment_check;
 mod states;
-mod store_check;
 
-use places::Place;
+use operations::call_check::table_word;
 use rules::Answer;
 use rules::Config;
 use rules::FlashWord;
-use rules::Frame;
 use rules::Outcome;
 use rules::RamByte;
 use rules::Refusal;
 use rules::State;
 
-// RAM's length, as a slice has it.
+// RAM's length, as a slice has it, and a jump table's.
 const RAM_BYTES: usize = address::RAM_BYTES as usize;
+
+const TABLE_WORDS: usize = 1024;
 
 // Section 2: set-up.
 pub fn set_up(config: Config, ram: &mut [u8]) -> Outcome
@@ -54,61 +49,31 @@ pub fn set_up(config: Config, ram: &mut [u8]) -> Outcome
     }
 }
 
+// The two rows that each operation's table begins with; done where neither holds.
+fn first_rows(state: State, ram: &[u8]) -> Answer
+    ensures { λ r. ⌜ r ≡ firstRows state (now (ram .entry)) ⌝ }
+{
+    if ram.len() != RAM_BYTES {
+        return Answer::Refused(Refusal::WrongSize);
+    }
+    if !good::good_state(state) {
+        return Answer::Refused(Refusal::BadState);
+    }
+    Answer::Done(0)
+}
+
 // Section 5: the six operations.
 pub fn store(state: State, ram: &mut [u8], address: RamByte, byte: u8) -> Outcome
     ensures { λ r. ⌜ Gives r (now (ram .exit)) (storeOf state (now (ram .entry)) address byte) ⌝ }
 {
-    let answer = store_check::answer(state, ram, address);
-    match answer {
-        Answer::Done(_) => {
-            ram[address.0 as usize] = byte;
-            return Outcome { answer, state };
-        }
-        Answer::Refused(_) => return Outcome { answer, state },
-    }
-}
-
-// A call with the word of its target already read from the table; a local call, or one past the tables, reads none. A frame is written
-// to the safe stack area, which is lent to the frame writer, and to no other byte.
-pub fn call_with(
-    state: State,
-    ram: &mut [u8],
-    word: u16,
-    target: FlashWord,
-    site: FlashWord,
-    pointer: RamByte,
-) -> Outcome
-    ensures { λ r. ⌜ Gives r (now (ram .exit)) (callOf state (now (ram .entry)) (tableOf word) target site pointer) ⌝ }
-{
-    let answer = call_check::answer(state, ram, word, target, site, pointer);
-    match answer {
-        Answer::Done(_) => {
-            let config = state.config;
-            let safe = config.safe.0 as usize;
-            let top = config.top.0 as usize;
-            let used = state.safepointer.0 - config.safe.0;
-            let mut next = state;
-            if target.0 < config.jt.0 {
-                frames::push(&mut ram[safe..top], used, Frame::Local(site));
-                next.safepointer = address::above(state.safepointer, frames::LOCAL_BYTES);
-                return Outcome {
-                    answer,
-                    state: next,
-                };
-            }
-            let bound = state.bound;
-            let frame = Frame::Cross(site, bound, state.domain);
-            frames::push(&mut ram[safe..top], used, frame);
-            next.domain = call_check::called_domain(config, target);
-            next.bound = pointer;
-            next.safepointer = address::above(state.safepointer, frames::CROSS_BYTES);
-            return Outcome {
-                answer,
-                state: next,
-            };
-        }
-        Answer::Refused(_) => return Outcome { answer, state },
-    }
+    let first = first_rows(state, ram);
+    let Answer::Done(_) = first else {
+        return Outcome {
+            answer: first,
+            state,
+        };
+    };
+    operations::store(state, ram, address, byte)
 }
 
 pub fn call(
@@ -121,127 +86,71 @@ pub fn call(
 ) -> Outcome
     ensures { λ r. ⌜ Gives r (now (ram .exit)) (callOf state (now (ram .entry)) (now (table .entry)) target site pointer) ⌝ }
 {
-    if table.len() != call_check::TABLE_WORDS as usize {
+    if table.len() != TABLE_WORDS {
         return Outcome {
             answer: Answer::Refused(Refusal::WrongSize),
             state,
         };
     }
-    let config = state.config;
-    let word = call_check::word_at(table, config.jt, target);
-    call_with(state, ram, word, target, site, pointer)
-}
-
-// The frame's bytes stay in RAM.
-pub fn ret(state: State, ram: &mut [u8]) -> Outcome
-    ensures { λ r. ⌜ Gives r (now (ram .exit)) (returnOf state (now (ram .entry))) ⌝ }
-{
-    let early = return_check::early(state, ram);
-    let Answer::Done(_) = early else {
+    let first = first_rows(state, ram);
+    let Answer::Done(_) = first else {
         return Outcome {
-            answer: early,
+            answer: first,
             state,
         };
     };
-    let frame = return_check::judged_frame(state, ram);
-    let mut next = state;
-    match frame {
-        Frame::Local(site) => {
-            next.safepointer = address::below(state.safepointer, frames::LOCAL_BYTES);
-            let answer = Answer::Done(site.0);
-            return Outcome {
-                answer,
-                state: next,
-            };
-        }
-        Frame::Cross(site, bound, domain) => {
-            next.domain = domain;
-            next.bound = bound;
-            next.safepointer = address::below(state.safepointer, frames::CROSS_BYTES);
-            let answer = Answer::Done(site.0);
-            return Outcome {
-                answer,
-                state: next,
-            };
-        }
-        Frame::Damage => {
-            let answer = Answer::Refused(Refusal::DamagedFrame);
-            return Outcome { answer, state };
-        }
-    }
+    let word = table[table_word(state.config.jt, target) as usize];
+    operations::call(state, ram, word, target, site, pointer)
+}
+
+pub fn ret(state: State, ram: &mut [u8]) -> Outcome
+    ensures { λ r. ⌜ Gives r (now (ram .exit)) (returnOf state (now (ram .entry))) ⌝ }
+{
+    let first = first_rows(state, ram);
+    let Answer::Done(_) = first else {
+        return Outcome {
+            answer: first,
+            state,
+        };
+    };
+    operations::ret(state, ram)
 }
 
 pub fn malloc(state: State, ram: &mut [u8], size: u16) -> Outcome
     ensures { λ r. ⌜ Gives r (now (ram .exit)) (mallocOf state (now (ram .entry)) size) ⌝ }
 {
-    let place = malloc_check::room(state, ram, size);
-    match place {
-        Place::At(k) => {
-            let config = state.config;
-            let n = address::blocks_for(size);
-            let first = map::start_code(state.domain);
-            let later = map::later_code(state.domain);
-            map::set_run(config.bot, ram, k, n, first, later);
-            let start = address::start_of(config.bot, k);
-            Outcome {
-                answer: Answer::Done(start.0),
-                state,
-            }
-        }
-        Place::Refused(refusal) => Outcome {
-            answer: Answer::Refused(refusal),
+    let first = first_rows(state, ram);
+    let Answer::Done(_) = first else {
+        return Outcome {
+            answer: first,
             state,
-        },
-    }
+        };
+    };
+    operations::malloc(state, ram, size)
 }
 
 pub fn free(state: State, ram: &mut [u8], address: RamByte) -> Outcome
     ensures { λ r. ⌜ Gives r (now (ram .exit)) (freeOf state (now (ram .entry)) address) ⌝ }
 {
-    let place = segment_check::segment_at(state, ram, address);
-    match place {
-        Place::At(k) => {
-            let config = state.config;
-            let freed = map::segment_blocks(config, ram, k);
-            let code = map::free_code();
-            map::set_run(config.bot, ram, k, freed, code, code);
-            Outcome {
-                answer: Answer::Done(freed),
-                state,
-            }
-        }
-        Place::Refused(refusal) => Outcome {
-            answer: Answer::Refused(refusal),
+    let first = first_rows(state, ram);
+    let Answer::Done(_) = first else {
+        return Outcome {
+            answer: first,
             state,
-        },
-    }
+        };
+    };
+    operations::free(state, ram, address)
 }
 
 pub fn change(state: State, ram: &mut [u8], address: RamByte, domain: u8) -> Outcome
     ensures { λ r. ⌜ Gives r (now (ram .exit)) (changeOf state (now (ram .entry)) address domain) ⌝ }
 {
-    let place = segment_check::segment_at(state, ram, address);
-    match place {
-        Place::At(k) => {
-            if map::TRUSTED <= domain {
-                return Outcome {
-                    answer: Answer::Refused(Refusal::DomainAbove),
-                    state,
-                };
-            }
-            let config = state.config;
-            let changed = map::segment_blocks(config, ram, k);
-            let first = map::start_code(domain);
-            let later = map::later_code(domain);
-            map::set_run(config.bot, ram, k, changed, first, later);
-            Outcome {
-                answer: Answer::Done(changed),
-                state,
-            }
-        }
-        Place::Refused(refusal) => Outcome {
-            answer: Answer::Refused(refusal),
+    let first = first_rows(state, ram);
+    let Answer::Done(_) = first else {
+        return Outcome {
+            answer: first,
             state,
-        },
-    }
+        };
+    };
+    operations::change(state, ram, address, domain)
 }

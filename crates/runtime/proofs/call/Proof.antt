@@ -1,39 +1,79 @@
 -- `runtime::call` meets its contract. Assumes nothing.
-use lib.Seq.{sets}
-use mathlib.Core.Path.{refl}
-use Rattle.rules.specs.declared.Answer.the-variants.{Refused}
-use Rattle.rules.specs.Call.{frameBytes, frameOf, called, callAnswer}
+use mathlib.Core.Path.{refl, sym, ap}
+use lib.ListN.{getD}
+use Rattle.rules.specs.Call.{callAnswer}
 use Rattle.laws.proofs.Answers.{gives-refused}
-use Rattle.runtime.proofs.CallRows.{wrong-table, call-by-word}
+use Rattle.operations.proofs.CallRows.{call-by-word}
+use Rattle.runtime.proofs.FirstRows.{wrong-table, call-refused, ready}
 use borrow.Author.Needs.{needs}
 use Rattle.runtime.proofs.call.Statement.{statement}
 use Rattle.runtime.proofs.call.Tie as tie
 
-cast-if1 : tie.Need-cast-if1
-cast-if1 c = search needs
-
 returns : tie.Need-returns
 returns c =
     let x = c .before .before .before .args in
-    gives-refused _ (callAnswer (x .state) (x .ram .now) (x .table .now) (x .target) (x .site) (x .pointer)) (x .state) (called (x .state) (x .target) (x .site) (x .pointer)) (x .ram .now)
-    (sets (x .ram .now) (x .state .safepointer .0) (frameBytes (frameOf (x .state) (x .target) (x .site))))
+    gives-refused _ (callAnswer (x .state) (x .ram .now) (x .table .now) (x .target) (x .site) (x .pointer)) (x .state) _ (x .ram .now) _
     (wrong-table (x .state) (x .ram .now) (x .table .now) (x .target) (x .site) (x .pointer) (c .if1 .taken)) _ refl
 
-word-at-requires : tie.Need-word-at-requires
-word-at-requires c κs = search needs
+first-rows-requires : tie.Need-first-rows-requires
+first-rows-requires c κs = search needs
 
-call-with-requires : tie.Need-call-with-requires
-call-with-requires c κs = search needs
+enum-told : tie.Need-enum-told
+enum-told c = search needs
+
+enum-told-2 : tie.Need-enum-told-2
+enum-told-2 c = search needs
 
 same-length : tie.Need-same-length
 same-length c = search needs
 
 returns-2 : tie.Need-returns-2
 returns-2 c =
-    let x = c .before .before .before .before .before .before .before .before .before .args in
-    rw (call-by-word (x .state) (x .ram .now) (x .table .now) (x .target) (x .site) (x .pointer) (c .before .before .before .before .word-at .result) (c .before .before .before .before .before .before .if1 .left) (c .before .before .before .before .word-at .ensures))
-    (c .before .before .call-with .ensures)
+    let x = c .before .before .before .before .before .before .before .args in
+    gives-refused _ (callAnswer (x .state) (x .ram .now) (x .table .now) (x .target) (x .site) (x .pointer)) (x .state) _ (x .ram .now) _
+    (call-refused (x .state) (x .ram .now) (x .table .now) (x .target) (x .site) (x .pointer) (c .before .before .before .before .if1 .left) _ (c .before .before .first-rows .ensures) _ (c .enum-told2 .given .1)) _
+    (c .enum-told2 .given .1)
+
+table-word-requires : tie.Need-table-word-requires
+table-word-requires c κs = search needs
+
+cast-word : tie.Need-cast-word
+cast-word c = search needs
+
+mul-word : tie.Need-mul-word
+mul-word c = search needs
+
+shared-slice-read-word : tie.Need-shared-slice-read-word
+shared-slice-read-word c = search needs
+
+call-requires : tie.Need-call-requires
+call-requires c κs =
+    let x = c .before .before .before .before .before .before .before .before .before .before .args in
+    ready (x .state) (x .ram .now) _ (c .before .before .before .before .before .first-rows .ensures) _ (c .before .before .before .enum-told .given .1)
+
+same-length-2 : tie.Need-same-length-2
+same-length-2 c = search needs
+
+returns-3 : tie.Need-returns-3
+returns-3 c =
+    let x = c .before .before .before .before .before .before .before .before .before .before .before .before .before .args in
+    rw (call-by-word (x .state) (x .ram .now) (x .table .now) (x .target) (x .site) (x .pointer) _ (c .before .before .before .before .before .before .before .before .before .before .if1 .left) (λ from to. ap (λ i. getD (x .table .now) i 0) (sym (c .before .before .before .before .before .table-word .ensures .1 from to))))
+    (c .before .before .call .ensures)
 
 pub call-spec : {M : Type 1} → statement M
 call-spec =
-    tie.close (tie.spec cast-if1 returns word-at-requires call-with-requires same-length returns-2)
+    tie.close
+    (tie.spec
+    returns
+    first-rows-requires
+    enum-told
+    enum-told-2
+    same-length
+    returns-2
+    table-word-requires
+    cast-word
+    mul-word
+    shared-slice-read-word
+    call-requires
+    same-length-2
+    returns-3)

@@ -1,83 +1,49 @@
 -- `runtime::change` meets its contract. Assumes nothing.
-use mathlib.Core.Path.{refl, sym, ap}
-use native.Mathlib.Omega.{arith}
-use Rattle.rules.specs.declared.Answer.the-variants.{Done}
+use Rattle.rules.specs.Free.{changeAnswer}
 use Rattle.laws.proofs.Answers.{gives-refused}
-use Rattle.laws.proofs.Codes.{startCode-lt, laterCode-lt}
-use Rattle.laws.proofs.Segments.{segment-some}
-use Rattle.runtime.proofs.Acts.{config-good, gives-as, own-before, own-codes, change-done, change-above}
+use Rattle.runtime.proofs.FirstRows.{refused, ready}
 use borrow.Author.Needs.{needs}
 use Rattle.runtime.proofs.change.Statement.{statement}
 use Rattle.runtime.proofs.change.Tie as tie
 
-segment-at-requires : tie.Need-segment-at-requires
-segment-at-requires c κs = search needs
+first-rows-requires : tie.Need-first-rows-requires
+first-rows-requires c κs = search needs
 
-enum-known-place : tie.Need-enum-known-place
-enum-known-place c = search needs
+enum-told : tie.Need-enum-told
+enum-told c = search needs
+
+enum-told-2 : tie.Need-enum-told-2
+enum-told-2 c = search needs
 
 same-length : tie.Need-same-length
 same-length c = search needs
 
 returns : tie.Need-returns
 returns c =
-    gives-refused _ _ _ _ _ _ (change-above _ _ _ _ (rw (c .before .before .place .given .1) at (c .before .before .before .before .segment-at .ensures)) _ (c .if1 .taken)) _ refl
+    let x = c .before .before .before .before .before .args in
+    gives-refused _ (changeAnswer (x .state) (x .ram .now) (x .address) (x .domain)) (x .state) _ (x .ram .now) _
+    (refused (x .state) (x .ram .now) _ (c .before .before .first-rows .ensures) _ (c .enum-told2 .given .1) _) _ (c .enum-told2 .given .1)
 
-segment-blocks-requires : tie.Need-segment-blocks-requires
-segment-blocks-requires c κs =
-    let own = rw (c .before .before .before .before .place .given .1) at (c .before .before .before .before .before .before .segment-at .ensures) in
-    (own .sized, (config-good _ (own .good), own-before _ _ _ _ own))
-
-start-code-requires : tie.Need-start-code-requires
-start-code-requires c κs = search needs
-
-later-code-requires : tie.Need-later-code-requires
-later-code-requires c κs = search needs
-
-set-run-requires : tie.Need-set-run-requires
-set-run-requires c κs =
-    let own = rw (c .before .before .before .before .before .before .before .before .place .given .1) at (c .before .before .before .before .before .before .before .before .before .before .segment-at .ensures) in
-    rw (c .before .before .before .segment-blocks .ensures, c .before .before .start-code .ensures, c .before .later-code .ensures) (
-      own .sized,
-      (segment-some _ _ _, (own-codes _ _ _ _ own, (startCode-lt _ (omega (arith, c .before .before .before .before .before .before .if1 .left)), laterCode-lt _ (omega (arith, c .before .before .before .before .before .before .if1 .left))))),
-    )
-
-enum-known-place-2 : tie.Need-enum-known-place-2
-enum-known-place-2 c = search needs
+change-requires : tie.Need-change-requires
+change-requires c κs =
+    let x = c .before .before .before .before .before .before .args in
+    ready (x .state) (x .ram .now) _ (c .before .before .before .first-rows .ensures) _ (c .before .enum-told .given .1)
 
 same-length-2 : tie.Need-same-length-2
 same-length-2 c = search needs
 
 returns-2 : tie.Need-returns-2
-returns-2 c =
-    gives-as _ _ _ _ (change-done _ _ _ _ (rw (c .before .before .before .before .before .before .before .before .before .before .before .place .given .1) at (c .before .before .before .before .before .before .before .before .before .before .before .before .before .segment-at .ensures)) _ (c .before .before .before .before .before .before .before .before .before .if1 .left)) (
-      ap Done (c .before .before .before .before .before .before .segment-blocks .ensures),
-      refl,
-      rw (c .before .before .before .before .before .before .segment-blocks .ensures, c .before .before .before .before .before .start-code .ensures, c .before .before .before .before .later-code .ensures) at (c .before .before .set-run .ensures),
-    )
-
-same-length-3 : tie.Need-same-length-3
-same-length-3 c = search needs
-
-returns-3 : tie.Need-returns-3
-returns-3 c =
-    gives-refused _ _ _ _ _ _
-    (sym ((rw (c .before .place2 .given .1) at (c .before .before .before .segment-at .ensures)) .1 (c .before .before .before .before .before .before .args .domain))) _ refl
+returns-2 c = search needs
 
 pub change-spec : {M : Type 1} → statement M
 change-spec =
     tie.close
     (tie.spec
-    segment-at-requires
-    enum-known-place
+    first-rows-requires
+    enum-told
+    enum-told-2
     same-length
     returns
-    segment-blocks-requires
-    start-code-requires
-    later-code-requires
-    set-run-requires
-    enum-known-place-2
+    change-requires
     same-length-2
-    returns-2
-    same-length-3
-    returns-3)
+    returns-2)

@@ -1,74 +1,49 @@
 -- `runtime::malloc` meets its contract. Assumes nothing.
-use mathlib.Core.Path.{refl, sym, ap}
-use Rattle.rules.specs.declared.RamByte.{RamByte}
-use Rattle.rules.specs.declared.Answer.the-variants.{Done}
-use Rattle.laws.proofs.Blocks.{blocksFor-pos}
+use Rattle.rules.specs.Malloc.{mallocAnswer}
 use Rattle.laws.proofs.Answers.{gives-refused}
-use Rattle.laws.proofs.Codes.{startCode-lt, laterCode-lt}
-use Rattle.laws.proofs.Good.{goodState-facts}
-use Rattle.runtime.proofs.Acts.{gives-as, room-codes, room-start, malloc-done}
+use Rattle.runtime.proofs.FirstRows.{refused, ready}
 use borrow.Author.Needs.{needs}
 use Rattle.runtime.proofs.malloc.Statement.{statement}
 use Rattle.runtime.proofs.malloc.Tie as tie
 
-room-requires : tie.Need-room-requires
-room-requires c κs = search needs
+first-rows-requires : tie.Need-first-rows-requires
+first-rows-requires c κs = search needs
 
-enum-known-place : tie.Need-enum-known-place
-enum-known-place c = search needs
+enum-told : tie.Need-enum-told
+enum-told c = search needs
 
-blocks-for-requires : tie.Need-blocks-for-requires
-blocks-for-requires c κs = search needs
-
-start-code-requires : tie.Need-start-code-requires
-start-code-requires c κs = goodState-facts _ ((rw (c .before .before .before .place .given .1) at (c .before .before .before .before .before .room .ensures)) .good) .domain≤trusted
-
-later-code-requires : tie.Need-later-code-requires
-later-code-requires c κs = goodState-facts _ ((rw (c .before .before .before .before .place .given .1) at (c .before .before .before .before .before .before .room .ensures)) .good) .domain≤trusted
-
-set-run-requires : tie.Need-set-run-requires
-set-run-requires c κs =
-    let room = rw (c .before .before .before .before .before .before .place .given .1) at (c .before .before .before .before .before .before .before .before .room .ensures) in
-    let domain = goodState-facts _ (room .good) .domain≤trusted in
-    rw (c .before .before .before .blocks-for .ensures, c .before .before .start-code .ensures, c .before .later-code .ensures)
-    (room .sized, (blocksFor-pos (room .some), (room-codes _ _ _ _ room, (startCode-lt _ domain, laterCode-lt _ domain))))
-
-start-of-requires : tie.Need-start-of-requires
-start-of-requires c κs = room-start _ _ _ _ (rw (c .before .before .before .before .before .before .before .before .before .place .given .1) at (c .before .before .before .before .before .before .before .before .before .before .before .room .ensures))
-
-enum-known-place-2 : tie.Need-enum-known-place-2
-enum-known-place-2 c = search needs
+enum-told-2 : tie.Need-enum-told-2
+enum-told-2 c = search needs
 
 same-length : tie.Need-same-length
 same-length c = search needs
 
 returns : tie.Need-returns
 returns c =
-    gives-as _ _ _ _ (malloc-done _ _ _ _ (rw (c .before .before .before .before .before .before .before .before .before .before .place .given .1) at (c .before .before .before .before .before .before .before .before .before .before .before .before .room .ensures))) (
-      ap (λ (b : RamByte). Done (b .0)) (c .start-of .ensures),
-      refl,
-      rw (c .before .before .before .before .before .before .before .blocks-for .ensures, c .before .before .before .before .before .before .start-code .ensures, c .before .before .before .before .before .later-code .ensures) at (c .before .before .before .set-run .ensures),
-    )
+    let x = c .before .before .before .before .before .args in
+    gives-refused _ (mallocAnswer (x .state) (x .ram .now) (x .size)) (x .state) _ (x .ram .now) _
+    (refused (x .state) (x .ram .now) _ (c .before .before .first-rows .ensures) _ (c .enum-told2 .given .1) _) _ (c .enum-told2 .given .1)
+
+malloc-requires : tie.Need-malloc-requires
+malloc-requires c κs =
+    let x = c .before .before .before .before .before .before .args in
+    ready (x .state) (x .ram .now) _ (c .before .before .before .first-rows .ensures) _ (c .before .enum-told .given .1)
 
 same-length-2 : tie.Need-same-length-2
 same-length-2 c = search needs
 
 returns-2 : tie.Need-returns-2
-returns-2 c = gives-refused _ _ _ _ _ _ (sym (rw (c .before .place2 .given .1) at (c .before .before .before .room .ensures))) _ refl
+returns-2 c = search needs
 
 pub malloc-spec : {M : Type 1} → statement M
 malloc-spec =
     tie.close
     (tie.spec
-    room-requires
-    enum-known-place
-    blocks-for-requires
-    start-code-requires
-    later-code-requires
-    set-run-requires
-    start-of-requires
-    enum-known-place-2
+    first-rows-requires
+    enum-told
+    enum-told-2
     same-length
     returns
+    malloc-requires
     same-length-2
     returns-2)

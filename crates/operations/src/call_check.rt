@@ -1,0 +1,106 @@
+// Section 5, call: which answer it gets.
+ghost use mathlib.Core.Path.{_≡_};
+ghost use mathlib.Core.Bool.{true};
+ghost use Prim.Native.Nat.{_-_, _≤_, _<_};
+ghost use lib.ListN.{length};
+ghost use Rattle.rules.specs.Memory.{ramBytes};
+ghost use Rattle.rules.specs.Code.{tableWords, tableWord, calledDomain};
+ghost use Rattle.rules.specs.State.{goodState};
+ghost use Rattle.rules.specs.Call.{callAnswer};
+ghost use Rattle.operations.specs.CallRows.{tableOf, localRows, crossRows};
+use rules::Answer;
+use rules::Config;
+use rules::FlashWord;
+use rules::RamByte;
+use rules::Refusal;
+use rules::State;
+
+const TABLE_WORDS: u16 = 1024;
+
+const DOMAIN_WORDS: u16 = 128;
+
+// The table word of a cross-domain call's target; the first, of which nothing is asked, where the target is local or past the tables.
+pub fn table_word(jt: FlashWord, target: FlashWord) -> u16
+    ensures { λ r. ⌜ (r < tableWords) × (jt .0 ≤ target .0 → target .0 - jt .0 < tableWords → r ≡ target .0 - jt .0) ⌝ }
+{
+    if target.0 < jt.0 {
+        return 0;
+    }
+    let word = target.0 - jt.0;
+    if TABLE_WORDS <= word {
+        return 0;
+    }
+    word
+}
+
+// The domain that a cross-domain call calls.
+pub fn called_domain(config: Config, target: FlashWord) -> u8
+    requires { ⌜ (config .jt .0 ≤ target .0) × (tableWord config target < tableWords) ⌝ }
+    ensures { λ r. ⌜ r ≡ calledDomain config target ⌝ }
+{
+    ((target.0 - config.jt.0) / DOMAIN_WORDS) as u8
+}
+
+// The rows of a local call, below those that every call has.
+fn local_answer(state: State, target: FlashWord) -> Answer
+    requires { ⌜ goodState state ≡ true ⌝ }
+    ensures { λ r. ⌜ r ≡ localRows state target ⌝ }
+{
+    let config = state.config;
+    if !crate::code_ranges::in_code(state.config, state.domain, target) {
+        return Answer::Refused(Refusal::TargetOutside);
+    }
+    if config.top.0 - state.safepointer.0 < frames::LOCAL_BYTES {
+        return Answer::Refused(Refusal::PassesTop);
+    }
+    Answer::Done(target.0)
+}
+
+// The rows of a cross-domain call.
+fn cross_answer(state: State, word: u16, target: FlashWord, pointer: RamByte) -> Answer
+    requires { ⌜ (goodState state ≡ true) × (state .config .jt .0 ≤ target .0) ⌝ }
+    ensures { λ r. ⌜ r ≡ crossRows state (tableOf word) target pointer ⌝ }
+{
+    let config = state.config;
+    if TABLE_WORDS <= target.0 - config.jt.0 {
+        return Answer::Refused(Refusal::PastTables);
+    }
+    let entry = address::entry(word);
+    if entry.0 == 0 {
+        return Answer::Refused(Refusal::BadEntry);
+    }
+    if !crate::code_ranges::in_code(state.config, called_domain(config, target), entry) {
+        return Answer::Refused(Refusal::BadEntry);
+    }
+    if pointer.0 < config.top.0 - 1 {
+        return Answer::Refused(Refusal::PointerOutside);
+    }
+    if state.bound.0 < pointer.0 {
+        return Answer::Refused(Refusal::PointerOutside);
+    }
+    if config.top.0 - state.safepointer.0 < frames::CROSS_BYTES {
+        return Answer::Refused(Refusal::PassesTop);
+    }
+    Answer::Done(entry.0)
+}
+
+pub fn answer(
+    state: State,
+    ram: &[u8],
+    word: u16,
+    target: FlashWord,
+    site: FlashWord,
+    pointer: RamByte,
+) -> Answer
+    requires { ⌜ (length (now ram) ≡ ramBytes) × (goodState state ≡ true) ⌝ }
+    ensures { λ r. ⌜ r ≡ callAnswer state (now (ram .entry)) (tableOf word) target site pointer ⌝ }
+{
+    let config = state.config;
+    if !crate::code_ranges::in_code(state.config, state.domain, site) {
+        return Answer::Refused(Refusal::SiteOutside);
+    }
+    if target.0 < config.jt.0 {
+        return local_answer(state, target);
+    }
+    cross_answer(state, word, target, pointer)
+}

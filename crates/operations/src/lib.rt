@@ -1,0 +1,205 @@
+// What each of the six operations does once RAM has its length and the state is good: the rows of section 5 below the first two. The
+// runtime and the layer for C make those two tests, each on the state as it comes to them.
+ghost use mathlib.Core.Path.{_≡_};
+ghost use mathlib.Core.Bool.{true};
+ghost use lib.ListN.{length};
+ghost use Rattle.rules.specs.Memory.{ramBytes};
+ghost use Rattle.rules.specs.State.{goodState};
+ghost use Rattle.rules.specs.Answers.{Gives};
+ghost use Rattle.rules.specs.Store.{storeOf};
+ghost use Rattle.rules.specs.Call.{callOf};
+ghost use Rattle.rules.specs.Return.{returnOf};
+ghost use Rattle.rules.specs.Malloc.{mallocOf};
+ghost use Rattle.rules.specs.Free.{freeOf, changeOf};
+ghost use Rattle.operations.specs.CallRows.{tableOf};
+
+pub mod call_check;
+mod code_ranges;
+mod malloc_check;
+mod places;
+mod return_check;
+mod segment_check;
+mod store_check;
+
+use places::Place;
+use rules::Answer;
+use rules::FlashWord;
+use rules::Frame;
+use rules::Outcome;
+use rules::RamByte;
+use rules::Refusal;
+use rules::State;
+
+pub fn store(state: State, ram: &mut [u8], address: RamByte, byte: u8) -> Outcome
+    requires { ⌜ (length (now ram) ≡ ramBytes) × (goodState state ≡ true) ⌝ }
+    ensures { λ r. ⌜ Gives r (now (ram .exit)) (storeOf state (now (ram .entry)) address byte) ⌝ }
+{
+    let answer = store_check::answer(state, ram, address);
+    match answer {
+        Answer::Done(_) => {
+            ram[address.0 as usize] = byte;
+            return Outcome { answer, state };
+        }
+        Answer::Refused(_) => return Outcome { answer, state },
+    }
+}
+
+// A call with the word of its target already read from the table; a local call, or one past the tables, looks at none. A frame is written
+// to the safe stack area, which is lent to the frame writer, and to no other byte.
+pub fn call(
+    state: State,
+    ram: &mut [u8],
+    word: u16,
+    target: FlashWord,
+    site: FlashWord,
+    pointer: RamByte,
+) -> Outcome
+    requires { ⌜ (length (now ram) ≡ ramBytes) × (goodState state ≡ true) ⌝ }
+    ensures { λ r. ⌜ Gives r (now (ram .exit)) (callOf state (now (ram .entry)) (tableOf word) target site pointer) ⌝ }
+{
+    let answer = call_check::answer(state, ram, word, target, site, pointer);
+    match answer {
+        Answer::Done(_) => {
+            let config = state.config;
+            let safe = config.safe.0 as usize;
+            let top = config.top.0 as usize;
+            let used = state.safepointer.0 - config.safe.0;
+            let mut next = state;
+            if target.0 < config.jt.0 {
+                frames::push(&mut ram[safe..top], used, Frame::Local(site));
+                next.safepointer = address::above(state.safepointer, frames::LOCAL_BYTES);
+                return Outcome {
+                    answer,
+                    state: next,
+                };
+            }
+            let bound = state.bound;
+            let frame = Frame::Cross(site, bound, state.domain);
+            frames::push(&mut ram[safe..top], used, frame);
+            next.domain = call_check::called_domain(config, target);
+            next.bound = pointer;
+            next.safepointer = address::above(state.safepointer, frames::CROSS_BYTES);
+            return Outcome {
+                answer,
+                state: next,
+            };
+        }
+        Answer::Refused(_) => return Outcome { answer, state },
+    }
+}
+
+pub fn ret(state: State, ram: &mut [u8]) -> Outcome
+    requires { ⌜ (length (now ram) ≡ ramBytes) × (goodState state ≡ true) ⌝ }
+    ensures { λ r. ⌜ Gives r (now (ram .exit)) (returnOf state (now (ram .entry))) ⌝ }
+{
+    if state.safepointer.0 == state.config.safe.0 {
+        return Outcome {
+            answer: Answer::Refused(Refusal::NoFrame),
+            state,
+        };
+    }
+    let frame = return_check::judged_frame(state, ram);
+    let mut next = state;
+    match frame {
+        Frame::Local(site) => {
+            next.safepointer = address::below(state.safepointer, frames::LOCAL_BYTES);
+            let answer = Answer::Done(site.0);
+            return Outcome {
+                answer,
+                state: next,
+            };
+        }
+        Frame::Cross(site, bound, domain) => {
+            next.domain = domain;
+            next.bound = bound;
+            next.safepointer = address::below(state.safepointer, frames::CROSS_BYTES);
+            let answer = Answer::Done(site.0);
+            return Outcome {
+                answer,
+                state: next,
+            };
+        }
+        Frame::Damage => {
+            let answer = Answer::Refused(Refusal::DamagedFrame);
+            return Outcome { answer, state };
+        }
+    }
+}
+
+pub fn malloc(state: State, ram: &mut [u8], size: u16) -> Outcome
+    requires { ⌜ (length (now ram) ≡ ramBytes) × (goodState state ≡ true) ⌝ }
+    ensures { λ r. ⌜ Gives r (now (ram .exit)) (mallocOf state (now (ram .entry)) size) ⌝ }
+{
+    let place = malloc_check::room(state, ram, size);
+    match place {
+        Place::At(k) => {
+            let config = state.config;
+            let n = address::blocks_for(size);
+            let first = map::start_code(state.domain);
+            let later = map::later_code(state.domain);
+            map::set_run(config.bot, ram, k, n, first, later);
+            let start = address::start_of(config.bot, k);
+            Outcome {
+                answer: Answer::Done(start.0),
+                state,
+            }
+        }
+        Place::Refused(refusal) => Outcome {
+            answer: Answer::Refused(refusal),
+            state,
+        },
+    }
+}
+
+pub fn free(state: State, ram: &mut [u8], address: RamByte) -> Outcome
+    requires { ⌜ (length (now ram) ≡ ramBytes) × (goodState state ≡ true) ⌝ }
+    ensures { λ r. ⌜ Gives r (now (ram .exit)) (freeOf state (now (ram .entry)) address) ⌝ }
+{
+    let place = segment_check::segment_at(state, ram, address);
+    match place {
+        Place::At(k) => {
+            let config = state.config;
+            let freed = map::segment_blocks(config, ram, k);
+            let code = map::free_code();
+            map::set_run(config.bot, ram, k, freed, code, code);
+            Outcome {
+                answer: Answer::Done(freed),
+                state,
+            }
+        }
+        Place::Refused(refusal) => Outcome {
+            answer: Answer::Refused(refusal),
+            state,
+        },
+    }
+}
+
+pub fn change(state: State, ram: &mut [u8], address: RamByte, domain: u8) -> Outcome
+    requires { ⌜ (length (now ram) ≡ ramBytes) × (goodState state ≡ true) ⌝ }
+    ensures { λ r. ⌜ Gives r (now (ram .exit)) (changeOf state (now (ram .entry)) address domain) ⌝ }
+{
+    let place = segment_check::segment_at(state, ram, address);
+    match place {
+        Place::At(k) => {
+            if map::TRUSTED <= domain {
+                return Outcome {
+                    answer: Answer::Refused(Refusal::DomainAbove),
+                    state,
+                };
+            }
+            let config = state.config;
+            let changed = map::segment_blocks(config, ram, k);
+            let first = map::start_code(domain);
+            let later = map::later_code(domain);
+            map::set_run(config.bot, ram, k, changed, first, later);
+            Outcome {
+                answer: Answer::Done(changed),
+                state,
+            }
+        }
+        Place::Refused(refusal) => Outcome {
+            answer: Answer::Refused(refusal),
+            state,
+        },
+    }
+}

@@ -1,0 +1,39 @@
+// Section 5, store: which answer it gets. The map is read once.
+ghost use mathlib.Core.Path.{_≡_};
+ghost use mathlib.Core.Bool.{true};
+ghost use lib.ListN.{length};
+ghost use Rattle.rules.specs.Memory.{ramBytes};
+ghost use Rattle.rules.specs.State.{goodState};
+ghost use Rattle.rules.specs.Store.{storeAnswer};
+use rules::Answer;
+use rules::RamByte;
+use rules::Refusal;
+use rules::State;
+
+pub fn answer(state: State, ram: &[u8], address: RamByte) -> Answer
+    requires { ⌜ (length (now ram) ≡ ramBytes) × (goodState state ≡ true) ⌝ }
+    ensures { λ r. ⌜ r ≡ storeAnswer state (now (ram .entry)) address ⌝ }
+{
+    if address::RAM_BYTES <= address.0 {
+        return Answer::Refused(Refusal::PastRam);
+    }
+    if state.domain == map::TRUSTED {
+        return Answer::Done(0);
+    }
+    let config = state.config;
+    if address.0 < config.bot.0 {
+        return Answer::Refused(Refusal::OtherOwner);
+    }
+    if config.top.0 <= address.0 {
+        if state.bound.0 < address.0 {
+            return Answer::Refused(Refusal::AboveBound);
+        }
+        return Answer::Done(0);
+    }
+    let block = address::block_of(config.bot, address);
+    let owner = map::owner_of(map::code_of(config.bot, ram, block));
+    if owner != state.domain {
+        return Answer::Refused(Refusal::OtherOwner);
+    }
+    Answer::Done(0)
+}
