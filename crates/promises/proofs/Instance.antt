@@ -1,28 +1,31 @@
 -- The sample's history and a trusted store after it are as assumed; and the incident's. So what is promised is promised of something. The
 -- checker computes their ghosts.
 -- Assumes nothing.
-use Prim.Native.Nat.{ℕ, zero, suc, _<_}
+use Prim.Native.Nat.{ℕ, zero, suc}
 use mathlib.Core.Path.{_≡_, refl, sym, ap, _∙_, subst}
 use mathlib.Core.Logic.{_≢_, _⊎_, inl, inr}
-use mathlib.Core.Bool.{Bool, true, false, true≢false}
-use mathlib.Core.List.{[], _∷_}
+use mathlib.Core.Bool.{Bool, true, false, true≢false, _&&_}
+use mathlib.Core.List.{List, [], _∷_}
 use native.Mathlib.Omega.{arith}
-use lib.ListN.{getD, set, replicate, take}
+use lib.ListN.{replicate, take}
+use lib.Dec.{ltb}
+use borrow.Author.Tests.{ltb-true}
+use Rattle.rules.specs.declared.Operation.{Operation as Scripted}
 use Rattle.rules.specs.Memory.{ramBytes, dividedUp, blockBytes, startOf, blockOf, blocksFor, blocks, heapBlock, safeBlock, isMultiple, radix, perByte, mapBytesFor, mapBytes, digit, setDigit, mapByte, mapDigit, codeOf, setCode, setCodes, startCode, laterCode, freeCode, ownerOf, startsSegment, isFree, trusted}
-use Rattle.rules.specs.Code.{flashWord, ordered, apartFrom, allApart, tableWords}
+use Rattle.rules.specs.Code.{ordered, apartFrom, allApart}
 use Rattle.rules.specs.State.{ramByte, goodConfig, goodState}
 use Rattle.rules.specs.Answers.{numberOf}
 use Rattle.rules.specs.SetUp.{setUpCode, setUpCodes, setUpRam, setUpOf}
 use Rattle.rules.specs.Return.{readFrame}
 use Rattle.rules.specs.Malloc.{freeRun, firstRun, lowestRun}
 use Rattle.rules.specs.Free.{continued, segmentBlocks}
-use Rattle.laws.proofs.Parts.{set-bytes}
+use Rattle.laws.proofs.Tests.{both}
 use Rattle.promises.specs.Operations.{Operation, store, call, return, malloc, free, change}
-use Rattle.promises.specs.History.{History, setUp, _then_, after, configOf, domainOf, answerTo, Says, InMap, InSafeStack, Bytes, BytesGiven, Assumed, none, next}
+use Rattle.promises.specs.History.{History, setUp, _then_, after, ramOf, configOf, domainOf, answerTo, Says, InMap, InSafeStack, Bytes, BytesGiven, Assumed, none, next}
 use Rattle.promises.specs.Ledger.{entered, replacedAt, ledger}
 use Rattle.promises.specs.Calls.{openCalls}
 use Rattle.promises.specs.Sample.{sample, sampleTable, zeroRam, sampleOperations}
-use Rattle.promises.specs.Instance.{historyOf, sampleHistory, storeAfter, incidentOperations, incidentHistory, segment, Ghosts}
+use Rattle.promises.specs.Instance.{lent, played, historyOf, sampleHistory, storeAfter, incidentOperations, incidentHistory, segment, Ghosts}
 use Rattle.promises.specs.Promise.{Promise}
 use Rattle.promises.specs.Incident.{Incident}
 use Rattle.promises.proofs.Theorem.{promise}
@@ -122,6 +125,31 @@ store-assumed =
 
 pub sample-promise : Promise storeAfter
 sample-promise = promise storeAfter store-assumed
+
+-- the byte that an operation is to store
+abbrev byteOf : Operation → ℕ
+byteOf (store a b) = b
+byteOf (call table t site p) = 0
+byteOf return = 0
+byteOf (malloc size) = 0
+byteOf (free a) = 0
+byteOf (change a d) = 0
+
+abbrev allBytes : List Scripted → Bool
+allBytes [] = true
+allBytes (o ∷ os) = ltb (byteOf (lent sampleTable o)) 256 && allBytes os
+
+played-bytes : (h : History) → BytesGiven h → (os : List Scripted) → allBytes os ≡ true → BytesGiven (played sampleTable h os)
+played-bytes h g [] all = g
+played-bytes h g (o ∷ os) all =
+    let (one, others) = both (ltb (byteOf (lent sampleTable o)) 256) (allBytes os) all in
+    played-bytes (h then lent sampleTable o) (g, λ a b e. omega (arith, ltb-true (byteOf (lent sampleTable o)) 256 one, ap byteOf e)) os others
+
+-- bytes were given, so RAM holds bytes
+pub sample-bytes : Bytes (ramOf storeAfter)
+sample-bytes =
+    sample-promise .bytes
+    (played-bytes (setUp sample zeroRam) (zero-bytes ramBytes) sampleOperations refl, λ a b e. omega (arith, ap byteOf e))
 
 -- ---- the incident
 
