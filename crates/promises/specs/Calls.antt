@@ -71,7 +71,7 @@ abbrev pub noted : Config → Operation → Answer → List OpenCall → List Op
 noted c o (Refused r) ks = ks
 noted c (call table t site p) (Done v) ks = opened c ks t site p ∷ ks
 noted c return (Done v) ks = older ks
--- nothing
+-- the others leave them
 noted c (store a b) (Done v) ks = ks
 noted c (malloc size) (Done v) ks = ks
 noted c (free a) (Done v) ks = ks

@@ -47,7 +47,7 @@ booked d o (Refused r) gs = gs
 booked d (malloc size) (Done v) gs = entered (record { address = v; blocks = blocksFor size; owner = d }) gs
 booked d (free a) (Done v) gs = replacedAt (a .0) struck gs
 booked d (change a e) (Done v) gs = replacedAt (a .0) (madeOver e) gs
--- nothing
+-- the others leave it
 booked d (store a b) (Done v) gs = gs
 booked d (call table t site p) (Done v) gs = gs
 booked d return (Done v) gs = gs
