@@ -2,7 +2,7 @@
 -- Assumes nothing.
 use Prim.Native.Nat.{ℕ}
 use mathlib.Core.Path.{_≡_, refl, sym, ap, _∙_, subst}
-use mathlib.Core.Bool.{Bool, true, false, cond, not, _||_, or-true, or-false}
+use mathlib.Core.Bool.{Bool, true, false, cond, not, or-true, or-false}
 use mathlib.Core.Logic.{_⊎_}
 use mathlib.Core.List.{List, []}
 use native.Mathlib.Omega.{arith}
@@ -14,9 +14,8 @@ use Rattle.rules.specs.declared.Config.{Config}
 use Rattle.rules.specs.declared.State.{State}
 use Rattle.rules.specs.declared.Answer.{Answer}
 use Rattle.rules.specs.declared.Answer.the-variants.{Done, Refused}
-use Rattle.rules.specs.declared.Refusal.{Refusal}
 use Rattle.rules.specs.declared.Refusal.the-variants.{WrongSize, BrokenRule}
-use Rattle.rules.specs.Memory.{ramBytes, trusted}
+use Rattle.rules.specs.Memory.{ramBytes}
 use Rattle.rules.specs.Code.{domains, flashWord}
 use Rattle.rules.specs.State.{goodConfig, ramByte, fresh, zeros}
 use Rattle.rules.specs.Answers.{_⇒_∣_, Given, give}
@@ -28,7 +27,7 @@ use Rattle.laws.proofs.Slot.{length-rangesAt, length-slotOf, slotOf-zero, state
 use Rattle.promises.specs.Operations as rule
 use Rattle.promises.specs.Operations.{Operation, step}
 use Rattle.promises.specs.History.{after, configOf, answerTo, Says, InMap, InSafeStack, Assumed}
-use Rattle.promises.specs.FromC.{CallFromC, store, call, return, malloc, free, change, stepFromC, RunFromC, setUpFromC, _next_, afterFromC, tableFromC, operationOf, historyOf, Same, SetUpDone, NoTrustedStore, FromC, Demand3FromC}
+use Rattle.promises.specs.FromC.{CallFromC, store, call, return, malloc, free, change, stepFromC, RunFromC, setUpFromC, _next_, afterFromC, operationOf, historyOf, Same, SetUpDone, PremiseFromC, Demand3FromC}
 use Rattle.promises.proofs.Says.{done-says}
 use Rattle.promises.proofs.Parts.{answers, doneState, doneRam, by-parts, done-config}
 use Rattle.promises.proofs.Steps.{always}
@@ -147,7 +146,7 @@ as-store (change a d) x b e = absurd (let z : _≡_ {A = ℕ} 0 1 = cc in omega 
 packed-zero : (a : Answer) → Says a 0 0 → packed a ≡ 0
 packed-zero a (n, v) = rw (n, v)
 
-assumed : (r : RunFromC) → SetUpDone r → NoTrustedStore r → Assumed (historyOf r)
+assumed : (r : RunFromC) → SetUpDone r → PremiseFromC r → Assumed (historyOf r)
 unfolding historyOf
 assumed (setUpFromC slot ram) a n =
     done-says _ 0 (give-answer (setUpAnswer (configIn slot) ram) zeros ram _ _ ∙ accepted slot ram a .1)

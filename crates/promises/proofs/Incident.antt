@@ -78,9 +78,13 @@ out-of-reach h d g m other-module another =
     record {
       held = there;
       forLong = λ l a x q along. same-on h g m x q a along;
-      refused = λ l k now. refused-store l (always l (k .0) .1) g (there l k) (other l now) (module-current l now);
-      same = λ l k now. same-bytes l (always l (k .0) .1) g (there l k) (other l now) (module-current l now);
-      stays = λ l k now o. segment-stays l (always l (k .0) .1) g (there l k) o (λ gives. other l now (gives .0));
+      powerless = λ l k now.
+          let i : HoldsAfter l = always l (k .0) .1 in
+          record {
+            refused = refused-store l i g (there l k) (other l now) (module-current l now);
+            same = same-bytes l i g (there l k) (other l now) (module-current l now);
+            stays = λ o. segment-stays l i g (there l k) o (λ gives. other l now (gives .0));
+          };
     }
   where
     there : (l : History) → NotGivenUp g h l → g ∈ ledger l

@@ -201,4 +201,5 @@ incident-there =
 pub incident-refused : (b : ℕ) → Says (answerTo incidentHistory (store (ramByte 320) b)) 5 0
 incident-refused =
     incident incidentHistory incident-assumed 0 (segment 320 1 1) incident-there
-    .refused incidentHistory (incident-assumed, none) (incident-computed .again0) 320 (omega arith, omega (arith, incident-computed .wide))
+    .powerless incidentHistory (incident-assumed, none) (incident-computed .again0)
+    .refused 320 (omega arith, omega (arith, incident-computed .wide))

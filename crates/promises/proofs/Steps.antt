@@ -3,10 +3,8 @@
 use Prim.Native.Nat.{ℕ}
 use mathlib.Core.Path.{_≡_, refl, sym, _∙_, subst}
 use mathlib.Core.Logic.{_⊎_, inl, inr, ⊎-elim}
-use mathlib.Core.List.{List}
 use Rattle.rules.specs.declared.RamByte.{RamByte}
 use Rattle.rules.specs.declared.Config.{Config}
-use Rattle.rules.specs.declared.State.{State}
 use Rattle.rules.specs.Memory.{trusted}
 use Rattle.promises.specs.Operations.{Operation, store, call, return, malloc, free, change, step}
 use Rattle.promises.specs.History.{History, setUp, _then_, after, stateOf, ramOf, configOf, answerTo, StoredBy, InMap, InSafeStack, Assumed, Stretch, none, next}

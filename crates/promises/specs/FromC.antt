@@ -83,19 +83,19 @@ SetUpDone (r next o) = SetUpDone r
 
 -- demand 3's premise: no hmt_store that answers 0 while byte 46 of the slot is 7, the trusted domain, lands in the map or the safe stack
 -- area of the configuration that the slot holds
-abbrev pub NoTrustedStore : RunFromC → Type 0
-NoTrustedStore (setUpFromC slot ram) = Unit {0}
-NoTrustedStore (r next o) =
+abbrev pub PremiseFromC : RunFromC → Type 0
+PremiseFromC (setUpFromC slot ram) = Unit {0}
+PremiseFromC (r next o) =
     let slot = afterFromC r .slot in
-    NoTrustedStore r
+    PremiseFromC r
     × ((x b : ℕ) → o ≡ store x b → cStoreOf slot (afterFromC r .ram) (ramByte x) b .answer ≡ 0 → getD slot domainIn 0 ≡ trusted
     → InMap (configIn slot) x ⊎ InSafeStack (configIn slot) x → ⊥)
 
 pub record FromC (r : RunFromC) : Type 0 where
-  -- the run is a history of the rules, whatever was called
+  -- whatever was called, the run is a history of the rules, answer for answer
   pub same : Same (afterFromC r) (after (historyOf r))
   -- and demand 3 holds of it under its premise
-  pub promise : NoTrustedStore r → Promise (historyOf r)
+  pub promise : PremiseFromC r → Promise (historyOf r)
 
 abbrev pub Demand3FromC : Type 0
 Demand3FromC = (r : RunFromC) → SetUpDone r → FromC r

@@ -44,7 +44,7 @@ domainOf h = stateOf h .domain
 abbrev pub byteAt : History → ℕ → ℕ
 byteAt h x = getD (ramOf h) x 0
 
--- an answer in the paper's numbers (section 6): number n and value v; number 0 is done
+-- an answer as section 6 numbers it: its number is n and its value v; 0 is done
 abbrev pub Says : Answer → ℕ → ℕ → Type 0
 Says a n v = (numberOf a ≡ n) × (valueOf a ≡ v)
 
@@ -68,7 +68,7 @@ abbrev pub Assumed : History → Type 0
 Assumed (setUp c ram) = Says (setUpOf c ram .answer) 0 0
 Assumed (h then o) = Assumed h × ((x : ℕ) → StoredBy h o x trusted → InMap (configOf h) x ⊎ InSafeStack (configOf h) x → ⊥)
 
--- each number is a byte; and so they were in the RAM that set-up was lent, and each that was to be stored
+-- each number of a list is a byte; and each was one that set-up was lent, or that was to be stored
 abbrev pub Bytes : List ℕ → Type 0
 Bytes ram = (i : ℕ) → getD ram i 0 < 256
 

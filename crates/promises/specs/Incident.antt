@@ -13,24 +13,26 @@ use Rattle.promises.specs.History.{History, _then_, domainOf, byteAt, an
 use Rattle.promises.specs.Ledger.{Segment, ledger, InSegment}
 use Rattle.promises.specs.Promise.{_∈_, GivesUp, StoredByHolder}
 
--- the moment h itself or a later one, l, and whatever was asked in between, of whatever domains, did not give g up
+-- the domain that is current at the moment l can do nothing to g: a store to any byte of it is refused with 5,
+pub record Powerless (g : Segment) (l : History) : Type 0 where
+  pub refused : (x : ℕ) → InSegment g x → (b : ℕ) → Says (answerTo l (store (ramByte x) b)) 5 0
+  -- and whatever is asked changes no byte of it, and leaves it with the domain that has it
+  pub same : (x : ℕ) → InSegment g x → (o : Operation) → byteAt (l then o) x ≡ byteAt l x
+  pub stays : (o : Operation) → g ∈ ledger (l then o)
+
+-- l is the moment h or a later one, and nothing that was asked in between, of whatever domains, gave g up
 abbrev pub NotGivenUp : Segment → History → History → Type 0
 NotGivenUp g h l = Assumed l × Stretch (λ k o. GivesUp g k o → ⊥) h l
 
--- from the moment h on the segment g is out of domain d's reach
+-- from the moment h on the segment g is out of domain d's reach:
 pub record OutOfReach (d : ℕ) (g : Segment) (h : History) : Type 0 where
   -- it stays with the domain that has it until that domain gives it up;
   pub held : (l : History) → NotGivenUp g h l → g ∈ ledger l
-  -- and each of its bytes stays as it is until then, or until that domain or the trusted one stores to the byte.
+  -- each of its bytes stays as it is until then, or until that domain or the trusted one stores to the byte;
   pub forLong : (l : History) → Assumed l → (x : ℕ) → InSegment g x
       → Stretch (λ k o. (GivesUp g k o → ⊥) × (StoredByHolder g x k o → ⊥)) h l → byteAt l x ≡ byteAt h x
-  -- Whenever d is current until then: a store to any byte of it is refused with 5,
-  pub refused : (l : History) → NotGivenUp g h l → domainOf l ≡ d
-      → (x : ℕ) → InSegment g x → (b : ℕ) → Says (answerTo l (store (ramByte x) b)) 5 0
-  -- and whatever is asked changes no byte of it, and leaves it with the domain that has it
-  pub same : (l : History) → NotGivenUp g h l → domainOf l ≡ d
-      → (x : ℕ) → InSegment g x → (o : Operation) → byteAt (l then o) x ≡ byteAt l x
-  pub stays : (l : History) → NotGivenUp g h l → domainOf l ≡ d → (o : Operation) → g ∈ ledger (l then o)
+  -- and whenever d is current until then, it can do nothing to it
+  pub powerless : (l : History) → NotGivenUp g h l → domainOf l ≡ d → Powerless g l
 
 -- what a domain has is out of every other module's reach
 abbrev pub Protected : Type 0
