@@ -1,15 +1,16 @@
 -- The rules of a configuration in the groups in which the code tests them, and what a loop over the ranges has left.
 -- Assumes nothing.
 use Prim.Native.Nat.{ℕ, suc, _+_, _-_, _≤_, _<_}
-use mathlib.Core.Path.{_≡_, refl, sym, _∙_}
+use mathlib.Core.Path.{_≡_, sym, _∙_, ap}
 use mathlib.Core.Bool.{Bool, true, false, _&&_, and-true, and-false, and-assoc}
 use mathlib.Core.List.{List}
 use native.Mathlib.Omega.{arith}
 use native.Mathlib.Numerals.{add-one}
-use lib.Dec.{leb, ltb}
+use lib.Dec.{leb}
 use lib.ListN.{length, getD, drop, drop-of-length-le}
 use lib.Seq.{drop-cons}
-use borrow.Author.Tests.{lt-ltb, le-ltb, le-leb, lt-leb, ne-eqb, leb-true, leb-false}
+use borrow.Author.Tests.{lt-ltb, le-ltb, le-leb, lt-leb, ne-eqb}
+use Rattle.rules.specs.declared.Block.{Block}
 use Rattle.rules.specs.declared.FlashWord.{FlashWord}
 use Rattle.rules.specs.declared.Range.{Range}
 use Rattle.rules.specs.declared.Config.{Config}
@@ -17,7 +18,10 @@ use Rattle.rules.specs.declared.State.{State}
 use Rattle.rules.specs.Memory.{ramBytes, trusted, blockOf, blocks, mapBytesFor, mapBytes}
 use Rattle.rules.specs.Code.{emptyRange, ordered, apart, apartFrom, allApart}
 use Rattle.rules.specs.State.{multiples, botBelowTop, mapBelowHeap, heapBelowSafe, safeBelowTop, topInRam, jtInFlash, rangesOrdered, rangesApart, goodConfig, goodState}
-use Rattle.laws.proofs.Tests.{byTest, left-false, right-false, left-true}
+use Rattle.rules.specs.Malloc.{block}
+use Rattle.laws.proofs.Map.{mapBytesFor-le}
+use Rattle.laws.proofs.Blocks.{block-small}
+use Rattle.laws.proofs.Tests.{left-false, right-false, left-true}
 
 -- the order of the four addresses
 abbrev pub inOrder : Config → Bool
@@ -37,32 +41,23 @@ module _ (c : Config) where
   pub not-in-flash : jtInFlash c ≡ false → false ≡ goodConfig c
   not-in-flash h = sym (by-groups ∙ right-false (multiples c) _ (right-false (inOrder c) _ (left-false (jtInFlash c) _ h)))
 
-  pub not-ordered : rangesOrdered c ≡ false → false ≡ goodConfig c
-  not-ordered h =
-      sym
-      (by-groups
-      ∙ right-false (multiples c) _ (right-false (inOrder c) _ (right-false (jtInFlash c) _ (left-false (rangesOrdered c) _ h))))
+  pub ranges-decide : multiples c ≡ true → inOrder c ≡ true → jtInFlash c ≡ true → (rangesOrdered c && rangesApart c) ≡ goodConfig c
+  ranges-decide m i j = sym (by-groups ∙ left-true (multiples c) _ m ∙ left-true (inOrder c) _ i ∙ left-true (jtInFlash c) _ j)
 
-  pub ranges-decide : multiples c ≡ true → inOrder c ≡ true → jtInFlash c ≡ true → rangesOrdered c ≡ true → rangesApart c ≡ goodConfig c
-  ranges-decide m i j o =
-      sym
-      (by-groups ∙ left-true (multiples c) _ m ∙ left-true (inOrder c) _ i ∙ left-true (jtInFlash c) _ j ∙ left-true (rangesOrdered c) _ o)
-
-pub map-length : (c : Config) → mapBytesFor (blockOf (c .bot) (c .top)) ≡ mapBytes c
+-- what the code takes for the map's length is that
+pub map-length : (c : Config) {b : Block} {m : ℕ} → b ≡ block (blockOf (c .bot) (c .top)) → m ≡ mapBytesFor (b .0) → m ≡ mapBytes c
 unfolding mapBytes blocks
-map-length c = refl
+map-length c e h = h ∙ ap (λ (b : Block). mapBytesFor (b .0)) e
 
-leb-sub : (b m h : ℕ) → b ≤ h → leb m (h - b) ≡ leb (b + m) h
-leb-sub b m h p =
-    byTest (leb (b + m) h)
-    (λ t. rw t (le-leb m (h - b) (omega (arith, leb-true (b + m) h t))))
-    (λ t. rw t (lt-leb m (h - b) (omega (arith, leb-false (b + m) h t))))
+-- the sum of bot and the map's length fits sixteen bits
+pub end-fits : (c : Config) → c .bot .0 < c .top .0 → c .top .0 ≤ ramBytes → c .bot .0 + mapBytes c < 65536
+unfolding mapBytes blocks
+end-fits c bt tr = omega (arith, mapBytesFor-le (blockOf (c .bot) (c .top)), block-small (c .bot) (c .top))
 
 -- where the other bounds hold, the map's end decides
-pub end-decides : (b h s t m : ℕ) → b < t → b ≤ h → h ≤ s → s ≤ t → t ≤ ramBytes
-    → leb m (h - b) ≡ (ltb b t && leb (b + m) h && leb h s && leb s t && leb t ramBytes)
-end-decides b h s t m bt bh hs st tr =
-    rw (lt-ltb b t bt, le-leb h s hs, le-leb s t st, le-leb t ramBytes tr) (simp and-true (leb-sub b m h bh))
+pub end-decides : (c : Config) → c .bot .0 < c .top .0 → c .heap .0 ≤ c .safe .0 → c .safe .0 ≤ c .top .0 → c .top .0 ≤ ramBytes
+    → leb (c .bot .0 + mapBytes c) (c .heap .0) ≡ inOrder c
+end-decides c bt hs st tr = simp (lt-ltb _ _ bt, le-leb _ _ hs, le-leb _ _ st, le-leb _ _ tr, and-true)
 
 -- a state, by its fields
 module _ (s : State) where

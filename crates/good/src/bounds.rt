@@ -32,13 +32,10 @@ pub fn in_order(config: Config) -> bool
     if config.safe.0 < config.heap.0 {
         return false;
     }
-    if config.heap.0 < config.bot.0 {
-        return false;
-    }
     if config.top.0 <= config.bot.0 {
         return false;
     }
     let blocks = address::block_of(config.bot, config.top);
     let bytes = address::packing::map_bytes_for(blocks.0);
-    bytes <= config.heap.0 - config.bot.0
+    config.bot.0 + bytes <= config.heap.0
 }

@@ -26,10 +26,7 @@ pub fn good_config(config: Config) -> bool
     if LAST_JT < config.jt.0 {
         return false;
     }
-    if !ranges::all_ordered(config) {
-        return false;
-    }
-    ranges::all_apart(config)
+    ranges::all_good(config)
 }
 
 // The cheap tests stand first; the bound is below RAM's end when one is added to it.

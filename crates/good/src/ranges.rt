@@ -1,15 +1,17 @@
 // Section 3: the eight code ranges of a configuration.
 ghost use mathlib.Core.Path.{_≡_};
+ghost use mathlib.Core.Bool.{_&&_};
 ghost use Prim.Native.Nat.{suc, _<_};
 ghost use lib.ListN.{drop};
 ghost use Rattle.rules.specs.Code.{domains, rangeOf, apart, apartFrom};
 ghost use Rattle.rules.specs.State.{rangesOrdered, rangesApart};
+use crate::TRUSTED;
 use rules::Config;
 use rules::Range;
 
 const DOMAINS: u8 = 8;
 
-pub fn all_ordered(config: Config) -> bool
+fn all_ordered(config: Config) -> bool
     ensures { λ r. ⌜ r ≡ rangesOrdered config ⌝ }
 {
     let mut i: u8 = 0;
@@ -57,7 +59,7 @@ fn apart_from_later(config: Config, d: u8) -> bool
     true
 }
 
-pub fn all_apart(config: Config) -> bool
+fn all_apart(config: Config) -> bool
     ensures { λ r. ⌜ r ≡ rangesApart config ⌝ }
 {
     let mut d: u8 = 0;
@@ -68,4 +70,48 @@ pub fn all_apart(config: Config) -> bool
         d += 1;
     }
     true
+}
+
+fn in_any_order(config: Config) -> bool
+    ensures { λ r. ⌜ r ≡ (rangesOrdered config && rangesApart config) ⌝ }
+{
+    if !all_ordered(config) {
+        return false;
+    }
+    all_apart(config)
+}
+
+// Modules usually lie in rising order with the trusted code before or after them: one pass sees that, and only another order costs the
+// test of all pairs. An empty range below last ends below it, too, and so needs no test against jt.
+pub fn all_good(config: Config) -> bool
+    ensures { λ r. ⌜ r ≡ (rangesOrdered config && rangesApart config) ⌝ }
+{
+    let first = config.ranges[0].start.0;
+    let mut last = first;
+    let mut i: u8 = 0;
+    while i < TRUSTED {
+        let start = config.ranges[i as usize].start.0;
+        let end = config.ranges[i as usize].end.0;
+        if last <= start {
+            if end < start {
+                return false;
+            }
+            last = end;
+        } else if start != end {
+            return in_any_order(config);
+        }
+        i += 1;
+    }
+    let start = config.ranges[TRUSTED as usize].start.0;
+    let end = config.ranges[TRUSTED as usize].end.0;
+    if end < start {
+        return false;
+    }
+    if last <= start {
+        return end <= config.jt.0;
+    }
+    if first < end {
+        return in_any_order(config);
+    }
+    last <= config.jt.0
 }

@@ -212,7 +212,7 @@ in-range r w h =
     (leb-true (r .start .0) (w .0) from, ltb-true (w .0) (r .end .0) to)
 
 -- a place past the end of the list gives the empty range, so this holds for every d
-ordered-at : (jt : FlashWord) (rs : List Range) → ordered jt rs ≡ true → (d : ℕ)
+pub ordered-at : (jt : FlashWord) (rs : List Range) → ordered jt rs ≡ true → (d : ℕ)
     → (getD rs d emptyRange .start .0 ≤ getD rs d emptyRange .end .0) × (getD rs d emptyRange .end .0 ≤ jt .0)
 unfolding ordered
 ordered-at jt [] h d = (omega arith, omega arith)

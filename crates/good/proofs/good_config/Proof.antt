@@ -2,7 +2,7 @@
 use mathlib.Core.Path.{_∙_}
 use borrow.Author.Tests.{lt-leb, le-leb}
 use Rattle.laws.proofs.Tests.{failed, passed}
-use Rattle.good.proofs.Groups.{not-multiples, not-in-order, not-in-flash, not-ordered, ranges-decide}
+use Rattle.good.proofs.Groups.{not-multiples, not-in-order, not-in-flash, ranges-decide}
 use borrow.Author.Needs.{needs}
 use Rattle.good.proofs.good_config.Statement.{statement}
 use Rattle.good.proofs.good_config.Tie as tie
@@ -22,23 +22,16 @@ returns-2 c = not-in-order _ (failed (c .before .in-order .ensures) (c .if2 .tak
 returns-3 : tie.Need-returns-3
 returns-3 c = not-in-flash _ (lt-leb _ _ (c .if3 .taken))
 
-all-ordered-requires : tie.Need-all-ordered-requires
-all-ordered-requires c κs = search needs
+all-good-requires : tie.Need-all-good-requires
+all-good-requires c κs = search needs
 
 returns-4 : tie.Need-returns-4
-returns-4 c = not-ordered _ (failed (c .before .all-ordered .ensures) (c .if4 .taken))
-
-all-apart-requires : tie.Need-all-apart-requires
-all-apart-requires c κs = search needs
-
-returns-5 : tie.Need-returns-5
-returns-5 c =
-    c .all-apart .ensures
+returns-4 c =
+    c .all-good .ensures
     ∙ ranges-decide _
-    (passed (c .before .before .before .before .before .before .before .before .multiples .ensures) (c .before .before .before .before .before .before .before .if1 .left))
-    (passed (c .before .before .before .before .before .before .in-order .ensures) (c .before .before .before .before .before .if2 .left))
-    (le-leb _ _ (c .before .before .before .if3 .left))
-    (passed (c .before .before .all-ordered .ensures) (c .before .if4 .left))
+    (passed (c .before .before .before .before .before .before .multiples .ensures) (c .before .before .before .before .before .if1 .left))
+    (passed (c .before .before .before .before .in-order .ensures) (c .before .before .before .if2 .left))
+    (le-leb _ _ (c .before .if3 .left))
 
 pub good-config-spec : {M : Type 1} → statement M
 good-config-spec =
@@ -49,7 +42,5 @@ good-config-spec =
     in-order-requires
     returns-2
     returns-3
-    all-ordered-requires
-    returns-4
-    all-apart-requires
-    returns-5)
+    all-good-requires
+    returns-4)
