@@ -23,7 +23,10 @@
  *     NULL, not even with length 0;
  *   - RAM, slot and table do not overlap;
  *   - no second call on the same RAM or slot begins before the first has
- *     ended, so an interrupt routine makes none.
+ *     ended, so an interrupt routine makes none;
+ *   - between calls nothing but these functions writes the slot or RAM: a
+ *     byte that C stores to RAM by itself was never checked, and what is
+ *     promised of the calls after it no longer holds.
  */
 #ifndef HMT_H
 #define HMT_H

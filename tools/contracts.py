@@ -1,33 +1,37 @@
 #!/usr/bin/env python3
-"""contracts.py: every public function's contract, as it stands in the source, leaves one result alone (document 01, section 10).
+"""contracts.py: uniqueness has an instance for every public function, about the very contract that stands in the source (document 01,
+section 10).
 
-`uniqueness` of crates/promises proves it for each form that a contract may have. This test is what ties that theorem to the contracts that
-are really written: it reads each crate's sources and passes a public function if its `ensures` is one of these forms, or a product of them,
+`uniqueness` of crates/promises proves, for each function by name, that no two results meet its contract. What ties those theorems to the
+contracts that are really written is this test: the checker does not compare the two. It reads each crate's sources and, for each public
+function, the field of its name in the record Uniqueness, which has the form
 
-    r ≡ ..                              the result
-    now (x .exit) ≡ ..                  a place that was lent to be written
-    Gives r (now (x .exit)) ..          both, and
-    GivesToC r (now (x .exit)) (now (y .exit)) ..
-    Printed (now (x .entry)) (now (x .exit)) .. r       the script's text, by `printed-once` of crates/script
+    (the parameters) → Only (λ r x′. what the function ensures)
 
-if what stands behind names nothing that the function leaves (but a result that the product has determined), if the result and every
-place lent with &mut are determined, and if uniqueness has a field about the rule that a `Gives` or `GivesToC` names.
+and passes the function if
+  - the field is about every parameter, each of its type (numbers as ℕ, slices as List ℕ);
+  - behind λ stand the result, if it has one, and every place lent with &mut, and nothing else: so nothing is left open;
+  - what follows is its `ensures` word for word, with x for `now (x .entry)` and x′ for `now (x .exit)`;
+  - each word of it is taken from where the source takes it. A word of the crate's own, which promises cannot cite, is a parameter of the
+    field (so the theorem holds whatever it means), or written out as its definition in the crate's specs says.
+
 A function is public if its file is open from the crate's root on. One with a `requires` is named as such: only proved code calls it.
 The last line printed is 'contracts: N passed, M failed'."""
+import glob
 import os
 import re
 import sys
 
 ROOT = os.path.dirname(os.path.dirname(os.path.abspath(__file__)))
 FIELDS = "crates/promises/specs/Uniqueness.antt"
-ABOUT = {"Gives": "Determined", "GivesToC": "DeterminedToC"}
 OPEN, CLOSE = "([{⌜", ")]}⌝"
+WORD = r"[^\W\d][\w′]*"
 
 
-def read(path):
+def read(path, comment):
     """A source without its comments."""
     with open(path, encoding="utf-8") as source:
-        return re.sub(r"//[^\n]*", "", source.read())
+        return re.sub(comment + r"[^\n]*", "", source.read())
 
 
 def open_files(folder, name, outer=()):
@@ -36,10 +40,11 @@ def open_files(folder, name, outer=()):
     if not os.path.exists(path):
         return
     inner = outer if name in ("lib", "main") else outer + (name,)
-    if re.search(r"^\s*pub\s+use\b", read(path), re.M):
+    text = read(path, "//")
+    if re.search(r"^\s*pub\s+use\b", text, re.M):
         raise ValueError(f"{path} passes names on, which this test does not follow")
-    yield path, inner
-    for module in re.findall(r"^\s*pub\s+mod\s+(\w+)\s*;", read(path), re.M):
+    yield text, inner
+    for module in re.findall(r"^\s*pub\s+mod\s+(\w+)\s*;", text, re.M):
         yield from open_files(folder, module, inner)
 
 
@@ -47,12 +52,9 @@ def closing(text, at):
     """Where the bracket that opens at a place closes."""
     depth = 0
     for i in range(at, len(text)):
-        if text[i] in OPEN:
-            depth += 1
-        elif text[i] in CLOSE:
-            depth -= 1
-            if depth == 0:
-                return i
+        depth += (text[i] in OPEN) - (text[i] in CLOSE)
+        if depth == 0:
+            return i
     raise ValueError("a bracket stays open")
 
 
@@ -62,25 +64,31 @@ def split(text, mark):
     for i, c in enumerate(text):
         depth += (c in OPEN) - (c in CLOSE)
         if c == mark and depth == 0:
-            parts.append(text[start:i].strip())
+            parts.append(text[start:i])
             start = i + 1
-    return parts + [text[start:].strip()]
+    return [part.strip() for part in parts + [text[start:]] if part.strip()]
 
 
-def bare(text):
-    """A text without brackets around all of it."""
-    text = text.strip()
-    while text.startswith("(") and closing(text, 0) == len(text) - 1:
-        text = text[1:-1].strip()
-    return text
+def uses(text):
+    """Which word is taken from where."""
+    return {word.strip(): module for module, words in re.findall(r"\buse ([\w·.]+)\.\{([^}]*)\}", text) for word in words.split(",")}
+
+
+def in_antt(kind):
+    """A type of the source as the specs write it."""
+    kind = re.sub(r"^&\s*(mut\s+)?", "", kind.strip())
+    if kind.startswith("["):
+        return "List ℕ"
+    return "ℕ" if re.fullmatch(r"u\d+|usize", kind) else {"bool": "Bool"}.get(kind, kind)
 
 
 def functions(text):
-    """Each public function: its name, the places lent to be written, whether it hands something back, and its clauses."""
+    """Each public function: its name, its parameters with their types, the places lent to be written, whether it hands something back, and
+    its clauses."""
     for head in re.finditer(r'^\s*pub\s+(?:extern\s+"C"\s+)?fn\s+(\w+)\s*', text, re.M):
         start = text.index("(", head.end())
         end = closing(text, start)
-        lent = [p.partition(":")[0].strip() for p in split(text[start + 1 : end], ",") if re.search(r":\s*&\s*mut\b", p)]
+        given = [[part.strip() for part in p.split(":", 1)] for p in split(text[start + 1 : end], ",")]
         rest = re.match(r"\s*(->\s*(?:[^{;\[]|\[[^\]]*\])*?)?\s*(?=\w+\s*\{|\{)", text[end + 1 :])
         if not rest:
             raise ValueError(f"{head.group(1)}: its head cannot be read")
@@ -90,89 +98,91 @@ def functions(text):
             last = closing(text, first)
             clauses.append((clause.group(1), " ".join(text[first + 1 : last].split())))
             at = last + 1
-        yield head.group(1), lent, rest.group(1) is not None, clauses
+        lent = [name for name, kind in given if re.match(r"&\s*mut\b", kind)]
+        yield head.group(1), {name: in_antt(kind) for name, kind in given}, lent, rest.group(1) is not None, clauses
 
 
-def names(text, name):
-    return re.search(rf"(?<![\w.«]){re.escape(name)}(?![\w»])", text) is not None
+def fields(text):
+    """Each field of the record: what it is about, by its type, the names behind λ, and what follows."""
+    body = text[text.index("pub record Uniqueness") :]
+    found = {}
+    for part in re.split(r"^  pub ", body, flags=re.M)[1:]:
+        field = re.fullmatch(r"«?(\w+)»? : ((?:\([^()]*\) )*)(?:→ )?Only\d? \(λ ([^.]*)\. (.*)\)", " ".join(part.split()))
+        if field:
+            about = {}
+            for group in re.findall(r"\(([^()]*)\)", field.group(2)):
+                names, _, kind = group.partition(" : ")
+                about.update({name: kind for name in names.split()})
+            found[field.group(1)] = about, field.group(3).split(), field.group(4)
+    return found
 
 
-def judge(part, result, known, fields):
-    """What one part of a contract determines, with the form it has; known is what the parts before it determine."""
-    text = re.fullmatch(rf"Printed \(now \((\w+) \.entry\)\) \(now \(\1 \.exit\)\) (.*) {result}", part)
-    exits = re.match(r"(Gives|GivesToC) (\w+)((?: \(now \(\w+ \.exit\)\))+) (.*)$", part)
-    if text:
-        form, settled, value = "Printed", {result, text.group(1)}, bare(text.group(2))
-    elif exits:
-        form, left, value = exits.group(1), re.findall(r"now \((\w+) \.exit\)", exits.group(3)), exits.group(4)
-        if exits.group(2) != result or len(left) != {"Gives": 1, "GivesToC": 2}[form]:
-            raise ValueError(f"`{part}` is not what {form} is about")
-        settled = {result, *left}
-        rule = bare(value).partition(" ")[0]
-        if (ABOUT[form], rule) not in fields:
-            raise ValueError(f"{FIELDS} has no field with `{ABOUT[form]} ({rule} ..)`")
-    else:
-        sides = split(part, "≡")
-        place = re.fullmatch(r"now \((\w+) \.exit\)", sides[0])
-        if len(sides) != 2 or not (place or sides[0] == result):
-            raise ValueError(f"`{part}` has none of the forms")
-        form, value = "≡", sides[1]
-        settled = {place.group(1) if place else result}
-    if any(len(split(value, mark)) > 1 for mark in "→⊎↔×≡"):
-        raise ValueError(f"`{part}` has none of the forms")
-    if ".exit" in value or (names(value, result) and (result not in known or result in settled)):
-        raise ValueError(f"`{part}` names what the function leaves")
-    return form, settled
+def written_out(text, crate, known):
+    """A contract whose first word is the crate's own: as its definition in specs/ says."""
+    word = text.split(" ")[0]
+    for path in [] if word in known else sorted(glob.glob(os.path.join(ROOT, "crates", crate, "specs", "*.antt"))):
+        meant = re.search(rf"^abbrev pub {re.escape(word)} : .*\n{re.escape(word)} ([^=]*) = (.*)$", read(path, "--"), re.M)
+        if meant:
+            put = dict(zip(meant.group(1).split(), split(text, " ")[1:]))
+            return re.sub(WORD, lambda name: put.get(name.group(0), name.group(0)), meant.group(2))
+    return text
 
 
-def contract(lent, hands, clauses, fields):
-    """The forms of a contract, or raise ValueError with what is wrong."""
-    forms, known = [], set()
-    parts = []
-    for kind, text in clauses:
-        if kind == "ensures":
-            said = re.fullmatch(r"λ (\w+)\. ⌜ (.*) ⌝", text)
-            if not said:
-                raise ValueError(f"`{text}` cannot be read")
-            parts += [(said.group(1), bare(part)) for part in split(bare(said.group(2)), "×")]
-    if not parts:
-        raise ValueError("it has no contract")
-    result = parts[0][0]
-    for bound, part in parts:
-        if bound != result:
-            raise ValueError("its result has two names")
-        form, settled = judge(part, result, known, fields)
-        known |= settled
-        forms.append(form)
-    open_still = [x for x in [result] * hands + lent if x not in known]
-    if open_still:
-        raise ValueError("left open: " + ", ".join(open_still))
-    return " × ".join(forms)
+def judge(crate, source, function, field, taken):
+    """Raise ValueError with what is wrong."""
+    name, given, lent, hands, clauses = function
+    ensured = [text for kind, text in clauses if kind == "ensures"]
+    said = re.fullmatch(r"λ (\w+)\. ⌜ (.*) ⌝", ensured[0]) if len(ensured) == 1 else None
+    if not said:
+        raise ValueError("it does not have one contract that can be read")
+    if field is None:
+        raise ValueError(f"{FIELDS} has no field of its name")
+    about, results, statement = field
+    text = re.sub(r"\(now \((\w+) \.entry\)\)|now \((\w+) \.entry\)", r"\1\2", said.group(2))
+    text = re.sub(r"\(now \((\w+) \.exit\)\)|now \((\w+) \.exit\)", r"\1\2′", text)
+    text = written_out(text, crate, taken)
+    wanted = [said.group(1)] * hands + [place + "′" for place in lent]
+    if sorted(results) != sorted(wanted):
+        raise ValueError(f"its field is about {', '.join(results)}, and it leaves {', '.join(wanted)}")
+    if any(about.get(x) != kind for x, kind in given.items()):
+        raise ValueError("its field is about other parameters")
+    if statement != text:
+        raise ValueError(f"its field says\n    {statement}\nand it ensures\n    {text}")
+    here = uses(source)
+    for word in set(re.findall(WORD, text)) - set(about) - set(results):
+        if word in here and taken.get(word) != here[word]:
+            raise ValueError(f"`{word}` is from {here[word]}, and in its field from {taken.get(word)}")
 
 
 def main():
-    with open(os.path.join(ROOT, FIELDS), encoding="utf-8") as spec:
-        fields = set(re.findall(r"→ (Determined|DeterminedToC) \((\w+) ", spec.read()))
-    passed, failed, leaves = 0, 0, []
+    spec = read(os.path.join(ROOT, FIELDS), "--")
+    stated, taken = fields(spec), uses(spec)
+    passed, failed, leaves, seen = 0, 0, [], set()
     crates = os.path.join(ROOT, "crates")
     for crate in sorted(os.listdir(crates)):
-        folder = os.path.join(crates, crate, "src")
         for root in ("lib", "main"):
-            for path, inner in open_files(folder, root):
-                for name, lent, hands, clauses in functions(read(path)):
-                    full = "::".join((crate, *inner, name))
+            for source, inner in open_files(os.path.join(crates, crate, "src"), root):
+                for function in functions(source):
+                    name, full = function[0], "::".join((crate, *inner, function[0]))
                     try:
-                        print(f"contract {full}: {contract(lent, hands, clauses, fields)}")
+                        if name in seen:
+                            raise ValueError("another public function has its name")
+                        seen.add(name)
+                        judge(crate, source, function, stated.get(name), taken)
+                        print(f"contract {full}: unique")
                         passed += 1
                     except ValueError as wrong:
                         print(f"contract {full}: FAILED: {wrong}")
                         failed += 1
-                    if any(kind == "requires" for kind, _ in clauses):
+                    if any(kind == "requires" for kind, _ in function[4]):
                         leaves.append(full)
+    for name in sorted(set(stated) - seen - {"gives", "givesToC"}):
+        print(f"FAILED: {FIELDS} has a field {name}, and no public function has that name")
+        failed += 1
     print("with a requires, called by proved code alone: " + (", ".join(leaves) or "none"))
-    if not passed + failed:
+    if not seen:
         print("FAILED: no public function is found")
-        failed = 1
+        failed += 1
     print(f"contracts: {passed} passed, {failed} failed")
     return 0 if failed == 0 else 1
 

@@ -25,9 +25,8 @@ use Rattle.rules.specs.Answers.{give}
 use Rattle.rules.specs.Call.{frameBytes, frameOf, pointerOutside, isCross, callAnswer, called, callOf}
 use Rattle.laws.proofs.Tests.{byTest, neither}
 use Rattle.laws.proofs.Rows.{passed}
-use Rattle.laws.proofs.Parts.{getD-sets-before, getD-sets-after, sets-bytes, slice-pushed}
-use Rattle.laws.proofs.Frames.{Fits, frame-bytes}
-use Rattle.laws.proofs.Good.{GoodConfig, safeBlock≤blocks, blocks≤places, site-fits}
+use Rattle.laws.proofs.Parts.{getD-sets-before, getD-sets-after, slice-pushed}
+use Rattle.laws.proofs.Good.{GoodConfig, safeBlock≤blocks, blocks≤places}
 use Rattle.promises.specs.Operations.{call}
 use Rattle.promises.specs.Ledger.{Segment}
 use Rattle.promises.specs.Calls.{Kind, local, cross, OpenCall, domainIn, boundIn, frameFor, framesOf}
@@ -50,11 +49,6 @@ module _ (s : State) (ram : List ℕ) (gs : List Segment) (ks : List OpenCall) (
   -- a call of the current domain
   abbrev madeHere : Kind → FlashWord → OpenCall
   madeHere kind site = record { kind = kind; site = site; domain = s .domain; bound = s .bound }
-
-  frame-fits : (kind : Kind) (site : FlashWord) → goodSite (s .config) (s .domain) site ≡ true → Fits (frameFor kind (madeHere kind site))
-  frame-fits local site e = omega (arith, site-fits (h .good .config) (s .domain) site e)
-  frame-fits (cross f p) site e =
-      (omega (arith, site-fits (h .good .config) (s .domain) site e), omega (arith, h .good .bound<ram), omega (arith, h .good .domain≤trusted))
 
   push-keeps : (kind : Kind) (site : FlashWord) (d : ℕ) (b : RamByte)
       → let k = madeHere kind site in
@@ -85,7 +79,6 @@ module _ (s : State) (ram : List ℕ) (gs : List Segment) (ks : List OpenCall) (
                 safepointer≤top = fits;
               };
           size = n ∙ h .size;
-          bytes = sets-bytes ram (s .safepointer .0) vs (h .bytes) (frame-bytes (frameFor kind (madeHere kind site)) (frame-fits kind site e));
           row = h .row;
           heap = λ k l u. same k (omega (arith, safeBlock≤blocks g, blocks≤places g)) ∙ h .heap k l u;
           other = λ k l q. same k l ∙ h .other k l q;

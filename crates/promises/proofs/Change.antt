@@ -27,11 +27,13 @@ use Rattle.promises.specs.History.{History, _then_, after, stateOf, ramO
 use Rattle.promises.specs.Ledger.{Segment, booked, ledger, firstBlock, endBlock, InSegment, HeapSegment}
 use Rattle.promises.specs.Calls.{Kind, cross, OpenCall, boundIn, domainBy, boundBy, noted, openCalls}
 use Rattle.promises.specs.Promise.{_∈_, StoredByHolder, AbovePointer}
+use Rattle.promises.proofs.Says.{says-done, done-says}
+use Rattle.promises.proofs.Parts.{step-config}
 use Rattle.promises.proofs.Row.{row-in-heap, member-one}
 use Rattle.promises.proofs.Shown.{member-owner, member-later}
 use Rattle.promises.proofs.Holds.{Chain, Holds, HoldsAfter}
 use Rattle.promises.proofs.Store.{storeRows, OwnStore, stored}
-use Rattle.promises.proofs.Steps.{NoStore, as-store, other-kept, step-config}
+use Rattle.promises.proofs.Steps.{NoStore, as-store, other-kept}
 
 -- ---- outside the map and the safe stack area a byte changes only by a store to it
 
@@ -144,7 +146,7 @@ module _ (h : History) (i : HoldsAfter h) where
   unfolding after
   touched-store x a b n =
       let (q, e) = store-touches (stateOf h) (ramOf h) a b x n in
-      (b, ap (λ (y : ℕ). store (ramByte y) b) q, e, refl)
+      (b, ap (λ (y : ℕ). store (ramByte y) b) q, done-says _ 0 e, refl)
 
   same-by-other : (o : Operation) → NoStore o → (x : ℕ) → Out (stateOf h .config) x → Changed x o → ⊥
   unfolding after
@@ -160,7 +162,7 @@ module _ (h : History) (i : HoldsAfter h) where
   -- by the trusted domain, or by a module that may
   by-whom : (o : Operation) (x d : ℕ) → StoredBy h o x d → (domainOf h ≡ trusted) ⊎ OwnStore (stateOf h) (ramOf h) (ramByte x)
   by-whom o x d (b, e, done, _) =
-      let a : storeOf (stateOf h) (ramOf h) (ramByte x) b .answer ≡ Done 0 = rw e at done in
+      let a : storeOf (stateOf h) (ramOf h) (ramByte x) b .answer ≡ Done 0 = rw e at (says-done (answerTo h o) 0 done) in
       stored (stateOf h) (ramOf h) (ramByte x) 0 (i .good .domain≤trusted) (sym (give-answer _ (stateOf h) (ramOf h) (stateOf h) _) ∙ a) .1
 
   -- ---- a segment's bytes

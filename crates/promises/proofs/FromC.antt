@@ -1,85 +1,41 @@
 -- A sequence of calls from C is a history of the rules, so what demand 3 promises holds of it.
 -- Assumes nothing.
-use Prim.Native.Nat.{ℕ, _+_, _*_, _<_, _≤_}
-use mathlib.Core.Path.{_≡_, refl, sym, ap, _∙_}
-use mathlib.Core.Bool.{Bool, true, false, cond, not, _||_, or-true, or-false}
+use Prim.Native.Nat.{ℕ}
+use mathlib.Core.Path.{_≡_, refl, sym, ap, _∙_, subst}
+use mathlib.Core.Bool.{Bool, true, false, cond, not, or-true, or-false}
+use mathlib.Core.Logic.{_⊎_}
 use mathlib.Core.List.{List, []}
 use native.Mathlib.Omega.{arith}
-use lib.ListN.{length, getD, set, replicate, List·getD-eq-default}
-use lib.Seq.{sets}
-use lib.Dec.{eqb, ltb}
-use borrow.Author.Tests.{eq-eqb, ne-eqb, ltb-true, ltb-false, not-true}
+use lib.ListN.{length, getD}
+use lib.Dec.{eqb}
+use borrow.Author.Tests.{eq-eqb, not-true}
+use Rattle.rules.specs.declared.RamByte.{RamByte}
+use Rattle.rules.specs.declared.Config.{Config}
 use Rattle.rules.specs.declared.State.{State}
 use Rattle.rules.specs.declared.Answer.{Answer}
 use Rattle.rules.specs.declared.Answer.the-variants.{Done, Refused}
-use Rattle.rules.specs.declared.Refusal.{Refusal}
 use Rattle.rules.specs.declared.Refusal.the-variants.{WrongSize, BrokenRule}
-use Rattle.rules.specs.Memory.{ramBytes, blockOf, blocksFor, setCodes, freeCode, segmentCodes}
-use Rattle.rules.specs.Code.{domains, tableWords, flashWord}
+use Rattle.rules.specs.Memory.{ramBytes}
+use Rattle.rules.specs.Code.{domains, flashWord}
 use Rattle.rules.specs.State.{goodConfig, ramByte, fresh, zeros}
 use Rattle.rules.specs.Answers.{_⇒_∣_, Given, give}
 use Rattle.rules.specs.SetUp.{setUpAnswer, setUpRam, setUpOf}
-use Rattle.rules.specs.Store.{storeAnswer}
-use Rattle.rules.specs.Call.{frameBytes, frameOf, callAnswer, called}
-use Rattle.rules.specs.Return.{topFrame, returnAnswer, returned}
-use Rattle.rules.specs.Malloc.{lowestRun, mallocAnswer, taken}
-use Rattle.rules.specs.Free.{blocksAt, freeAnswer, changeAnswer}
 use Rattle.rules.specs.Slot.{slotBytes, rangesIn, zeroIn, configIn, stateIn, slotOf, packed, GivenToC, refusedToC, toC, wrongSize, cSetUpOf, cOperation, tableBytes, tableIn}
 use Rattle.laws.proofs.Tests.{byTest}
 use Rattle.laws.proofs.Rows.{give-answer}
-use Rattle.laws.proofs.Slot.{length-rangesAt, length-slotOf, slotOf-zero, stateIn-slotOf, length-wordsAt, getD-wordsAt}
-use Rattle.laws.proofs.ToC.{returned-config}
+use Rattle.laws.proofs.Slot.{length-rangesAt, length-slotOf, slotOf-zero, stateIn-slotOf}
 use Rattle.promises.specs.Operations as rule
-use Rattle.promises.specs.Operations.{Operation, step, Fits}
-use Rattle.promises.specs.History.{after, Bytes, Assumed}
-use Rattle.promises.specs.FromC.{CallFromC, store, call, return, malloc, free, change, stepFromC, RunFromC, setUpFromC, _next_, afterFromC, tableFromC, operationOf, historyOf, Same, Wide, AssumedFromC, FromC, Demand3FromC}
+use Rattle.promises.specs.Operations.{Operation, step}
+use Rattle.promises.specs.History.{after, configOf, answerTo, Says, InMap, InSafeStack, Assumed}
+use Rattle.promises.specs.FromC.{CallFromC, store, call, return, malloc, free, change, stepFromC, RunFromC, setUpFromC, _next_, afterFromC, operationOf, historyOf, Same, SetUpDone, PremiseFromC, Demand3FromC}
+use Rattle.promises.proofs.Says.{done-says}
+use Rattle.promises.proofs.Parts.{answers, doneState, doneRam, by-parts, done-config}
+use Rattle.promises.proofs.Steps.{always}
 use Rattle.promises.proofs.Theorem.{promise}
 
--- ---- the configuration stays, so a state keeps its eight ranges
-
+-- the configuration stays, so a state keeps its eight ranges
 abbrev Eight : State → Type 0
 Eight s = length (s .config .ranges) ≡ domains
-
--- an operation by its parts: its answer, and the state and RAM when it is done
-abbrev answers : State → List ℕ → Operation → Answer
-answers s ram (rule.store a b) = storeAnswer s ram a
-answers s ram (rule.call table t site p) = callAnswer s ram table t site p
-answers s ram rule.return = returnAnswer s ram
-answers s ram (rule.malloc size) = mallocAnswer s ram size
-answers s ram (rule.free a) = freeAnswer s ram a
-answers s ram (rule.change a d) = changeAnswer s ram a d
-
-abbrev doneState : State → List ℕ → Operation → State
-doneState s ram (rule.store a b) = s
-doneState s ram (rule.call table t site p) = called s t site p
-doneState s ram rule.return = returned s (topFrame s ram)
-doneState s ram (rule.malloc size) = s
-doneState s ram (rule.free a) = s
-doneState s ram (rule.change a d) = s
-
-abbrev doneRam : State → List ℕ → Operation → List ℕ
-doneRam s ram (rule.store a b) = set ram (a .0) b
-doneRam s ram (rule.call table t site p) = sets ram (s .safepointer .0) (frameBytes (frameOf s t site))
-doneRam s ram rule.return = ram
-doneRam s ram (rule.malloc size) = taken s ram (blocksFor size) (lowestRun (s .config) ram (blocksFor size))
-doneRam s ram (rule.free a) = setCodes (s .config .bot) ram (blockOf (s .config .bot) a) (replicate (blocksAt s ram a) freeCode)
-doneRam s ram (rule.change a d) = setCodes (s .config .bot) ram (blockOf (s .config .bot) a) (segmentCodes d (blocksAt s ram a))
-
-by-parts : (s : State) (ram : List ℕ) (o : Operation) → step s ram o ≡ give (answers s ram o) s ram (doneState s ram o) (doneRam s ram o)
-by-parts s ram (rule.store a b) = refl
-by-parts s ram (rule.call table t site p) = refl
-by-parts s ram rule.return = refl
-by-parts s ram (rule.malloc size) = refl
-by-parts s ram (rule.free a) = refl
-by-parts s ram (rule.change a d) = refl
-
-done-config : (s : State) (ram : List ℕ) (o : Operation) → doneState s ram o .config ≡ s .config
-done-config s ram (rule.store a b) = refl
-done-config s ram (rule.call table t site p) = refl
-done-config s ram rule.return = returned-config s (topFrame s ram)
-done-config s ram (rule.malloc size) = refl
-done-config s ram (rule.free a) = refl
-done-config s ram (rule.change a d) = refl
 
 -- every table's first row
 wrong-first : (s : State) (ram : List ℕ) (o : Operation) → eqb (length ram) ramBytes ≡ false → answers s ram o ≡ Refused WrongSize
@@ -165,35 +121,51 @@ module _ (slot ram : List ℕ) (h : cSetUpOf slot ram .answer ≡ 0) where
   same-set-up : Same (cSetUpOf slot ram) (setUpOf (configIn slot) ram)
   same-set-up = rw (accepted .0, accepted .1) (same _ _ (length-rangesAt slot rangesIn domains) refl refl refl)
 
+-- ---- the run is a history
+
+same-run : (r : RunFromC) → SetUpDone r → Same (afterFromC r) (after (historyOf r))
+unfolding afterFromC historyOf after
+same-run (setUpFromC slot ram) a = same-set-up slot ram a
+same-run (r next o) a = next-step (afterFromC r) (after (historyOf r)) o (same-run r a)
+
 -- ---- what is assumed in C's terms is what is assumed of the history
 
-table-words : (table : List ℕ) → Bytes table → (i : ℕ) → getD (tableFromC table) i 0 < 65536
-table-words table bytes i =
-    byTest (eqb (length table) tableBytes) (λ h. rw h (byTest (ltb i tableWords) (λ l.
-    let within : i < tableWords = ltb-true i tableWords l in
-    rw (getD-wordsAt table 0 tableWords i within) (omega (arith, bytes (0 + 2 * i), bytes (0 + 2 * i + 1)))) (λ l.
-    let past : length (tableIn table) ≤ i = omega (arith, ltb-false i tableWords l, length-wordsAt table 0 tableWords) in
-    rw (List·getD-eq-default (tableIn table) 0 past) (omega arith)))) (λ h. rw h (omega arith))
+-- an operation that is a store is a call of hmt_store
+as-store : (o : CallFromC) (x b : ℕ) → operationOf o ≡ rule.store (ramByte x) b → o ≡ store x b
+as-store (store a c) x b e =
+    let place : ramByte a ≡ ramByte x = cc in
+    let address : a ≡ x = ap (λ (y : RamByte). y .0) place in
+    let byte : c ≡ b = cc in
+    rw (address, byte)
+as-store (call table t site p) x b e = absurd (let z : _≡_ {A = ℕ} 0 1 = cc in omega arith)
+as-store return x b e = absurd (let z : _≡_ {A = ℕ} 0 1 = cc in omega arith)
+as-store (malloc n) x b e = absurd (let z : _≡_ {A = ℕ} 0 1 = cc in omega arith)
+as-store (free a) x b e = absurd (let z : _≡_ {A = ℕ} 0 1 = cc in omega arith)
+as-store (change a d) x b e = absurd (let z : _≡_ {A = ℕ} 0 1 = cc in omega arith)
 
-fits : (o : CallFromC) → Wide o → Fits (operationOf o)
-fits (store a b) w = w
-fits (call table t site p) w = (table-words table (w .0), w .1, w .2, w .3)
-fits return w = tt
-fits (malloc size) w = w
-fits (free a) w = w
-fits (change a d) w = w
+packed-zero : (a : Answer) → Says a 0 0 → packed a ≡ 0
+packed-zero a (n, v) = rw (n, v)
 
-assumed : (r : RunFromC) → AssumedFromC r → Assumed (historyOf r)
+assumed : (r : RunFromC) → SetUpDone r → PremiseFromC r → Assumed (historyOf r)
 unfolding historyOf
-assumed (setUpFromC slot ram) a = (give-answer (setUpAnswer (configIn slot) ram) zeros ram _ _ ∙ accepted slot ram (a .0) .1, a .1)
-assumed (r next o) a = (assumed r (a .0), fits o (a .1), a .2)
+assumed (setUpFromC slot ram) a n =
+    done-says _ 0 (give-answer (setUpAnswer (configIn slot) ram) zeros ram _ _ ∙ accepted slot ram a .1)
+assumed (r next o) a n =
+    let before : Assumed (historyOf r) = assumed r a (n .0) in
+    let now : Same (afterFromC r) (after (historyOf r)) = same-run r a in
+    let config : configOf (historyOf r) ≡ configIn (afterFromC r .slot) =
+    sym (ap (λ (s : State). s .config) (now .state) ∙ always (historyOf r) before .0) in (
+      before,
+      λ x (b, e, says, d) place.
+          let called : o ≡ store x b = as-store o x b e in
+          n .1 x b called
+          (ap (λ (o : CallFromC). stepFromC (afterFromC r .slot) (afterFromC r .ram) o .answer) (sym called)
+          ∙ next-step (afterFromC r) (after (historyOf r)) o now .answer ∙ packed-zero (answerTo (historyOf r) (operationOf o)) says)
+          (ap (λ (s : State). s .domain) (now .state) ∙ d)
+          (subst (λ (c : Config). InMap c x ⊎ InSafeStack c x) config place),
+    )
 
 -- ---- the theorem
 
-same-run : (r : RunFromC) → AssumedFromC r → Same (afterFromC r) (after (historyOf r))
-unfolding afterFromC historyOf after
-same-run (setUpFromC slot ram) a = same-set-up slot ram (a .0)
-same-run (r next o) a = next-step (afterFromC r) (after (historyOf r)) o (same-run r (a .0))
-
 pub from-c : Demand3FromC
-from-c r a = record { same = same-run r a; promise = promise (historyOf r) (assumed r a) }
+from-c r a = record { same = same-run r a; promise = λ n. promise (historyOf r) (assumed r a n) }

@@ -18,9 +18,9 @@ use Rattle.rules.specs.Answers.{Given}
 use Rattle.rules.specs.SetUp.{setUpCode}
 use Rattle.laws.proofs.Tests.{byTest}
 use Rattle.laws.proofs.AllBelow.{AllBelow}
-use Rattle.laws.proofs.Map.{mapByte-ge, mapByte-lt, code-of-byte, length-setCodes, codes-outside, codes-inside, setCodes-outside, setCodes-bytes}
+use Rattle.laws.proofs.Map.{mapByte-ge, mapByte-lt, code-of-byte, length-setCodes, codes-outside, codes-inside, setCodes-outside}
 use Rattle.laws.proofs.Good.{GoodConfig, GoodState, safeBlock≤blocks, blocks≤places, place<heap}
-use Rattle.promises.specs.History.{History, stateOf, ramOf, InMap, InSafeStack, Bytes}
+use Rattle.promises.specs.History.{History, stateOf, ramOf, InMap, InSafeStack}
 use Rattle.promises.specs.Operations.{Operation}
 use Rattle.promises.specs.Ledger.{Segment, booked, ledger, codeBy}
 use Rattle.promises.specs.Calls.{OpenCall, boundIn, domainBy, boundBy, noted, openCalls, framesOf}
@@ -48,7 +48,6 @@ Chain c (k ∷ ks) = Link c k ks × Chain c ks
 pub record Holds (s : State) (ram : List ℕ) (gs : List Segment) (ks : List OpenCall) : Type 0 where
   pub good : GoodState s
   pub size : length ram ≡ ramBytes
-  pub bytes : Bytes ram
   pub row : Row (s .config) (heapBlock (s .config)) gs
   pub heap : Codes (s .config) ram (heapBlock (s .config)) gs
   pub other : (k : ℕ) → k < mapBytes (s .config) * perByte → (heapBlock (s .config) ≤ k → safeBlock (s .config) ≤ k)
@@ -112,7 +111,6 @@ module _ (s : State) (ram : List ℕ) (gs : List Segment) (ks : List OpenCall) (
         record {
           good = h .good;
           size = n ∙ h .size;
-          bytes = setCodes-bytes (c .bot) ram k vs below (h .bytes);
           row = row;
           heap = λ j a b.
               byTest (ltb j k)

@@ -1,26 +1,26 @@
--- The incident cannot happen: what another module has got is out of reach of the one that freed it.
+-- What a domain has is out of every other module's reach; so the incident cannot happen.
 -- Assumes nothing.
 use Prim.Native.Nat.{ℕ}
 use mathlib.Core.Path.{_≡_, refl, sym, _∙_}
 use mathlib.Core.Logic.{inl, ⊎-elim, _≢_}
 use native.Mathlib.Omega.{arith}
-use lib.ListN.{length}
+use lib.ListN.{length, set}
 use borrow.Author.Tests.{eq-eqb, ne-eqb, lt-leb, lt-ltb, le-ltb}
 use Rattle.rules.specs.declared.RamByte.{RamByte}
 use Rattle.rules.specs.declared.Config.{Config}
-use Rattle.rules.specs.declared.Answer.the-variants.{Done, Refused}
-use Rattle.rules.specs.declared.Refusal.the-variants.{OtherOwner}
+use Rattle.rules.specs.declared.Answer.the-variants.{Done}
 use Rattle.rules.specs.Memory.{ramBytes, heapBlock, trusted}
 use Rattle.rules.specs.State.{ramByte}
 use Rattle.rules.specs.Store.{storeAnswer}
 use Rattle.laws.proofs.Rows.{give-answer}
 use Rattle.laws.proofs.Good.{GoodConfig, goodState-true, bot<heap}
 use Rattle.promises.specs.Operations.{Operation, store, free}
-use Rattle.promises.specs.History.{History, _then_, stateOf, ramOf, domainOf, byteAt, answerTo, Assumed, Stretch, none, next}
+use Rattle.promises.specs.History.{History, _then_, stateOf, ramOf, domainOf, byteAt, answerTo, Says, Assumed, Stretch, none, next}
 use Rattle.promises.specs.Calls.{openCalls}
 use Rattle.promises.specs.Ledger.{Segment, ledger, InSegment}
 use Rattle.promises.specs.Promise.{_∈_, GivesUp, StoredByHolder}
-use Rattle.promises.specs.Incident.{NoIncident}
+use Rattle.promises.specs.Incident.{NotGivenUp, Protected, NoIncident}
+use Rattle.promises.proofs.Says.{says-done}
 use Rattle.promises.proofs.Row.{row-in-heap}
 use Rattle.promises.proofs.Holds.{HoldsAfter}
 use Rattle.promises.proofs.Steps.{always, earlier}
@@ -37,13 +37,12 @@ freed-by-module h assumed a n done d =
 
 module _ (h : History) (i : HoldsAfter h) (g : Segment) (m : g ∈ ledger h)
     (other : domainOf h ≢ g .owner) (module-current : domainOf h ≢ trusted) where
-  refused-store : (x : ℕ) → InSegment g x → (b : ℕ) → answerTo h (store (ramByte x) b) ≡ Refused OtherOwner
+  refused-store : (x : ℕ) → InSegment g x → (b : ℕ) → Says (answerTo h (store (ramByte x) b)) 5 0
   refused-store x q b =
       let c : Config = stateOf h .config in
       let good : GoodConfig c = i .good .config in
       let (from, to) = segment-place (stateOf h) (ramOf h) (ledger h) (openCalls h) i g m (ramByte x) q in
-      give-answer (storeAnswer (stateOf h) (ramOf h) (ramByte x)) (stateOf h) (ramOf h) (stateOf h) _
-      ∙ (rw (
+      rw (give-answer (storeAnswer (stateOf h) (ramOf h) (ramByte x)) (stateOf h) (ramOf h) (stateOf h) (set (ramOf h) x b)) (rw (
         eq-eqb (length (ramOf h)) ramBytes (i .size),
         goodState-true (stateOf h) (i .good),
         lt-leb ramBytes x (omega (arith, good .safe≤top, good .top≤ram)),
@@ -52,7 +51,7 @@ module _ (h : History) (i : HoldsAfter h) (g : Segment) (m : g ∈ ledger h)
         lt-ltb x (c .top .0) (omega (arith, good .safe≤top)),
         segment-owner (stateOf h) (ramOf h) (ledger h) (openCalls h) i g m (ramByte x) q,
         ne-eqb (g .owner) (domainOf h) (λ e. other (sym e)),
-      ))
+      ) (refl, refl))
 
   same-bytes : (x : ℕ) → InSegment g x → (o : Operation) → byteAt (h then o) x ≡ byteAt h x
   same-bytes x q o =
@@ -74,17 +73,31 @@ same-on h g m x q a (next {h = k} {o = o} before (keeps, never)) =
     unchanged _ _ (segment-step k (always k (a .0) .1) g o (inl (held-on h g m _ (λ k o p. p .0) (a .0) before)) x q) never
     ∙ same-on h g m x q (a .0) before
 
-pub incident : NoIncident
-incident h a d g p current =
-    let i : HoldsAfter h = always h a .1 in
-    let other : domainOf h ≢ g .owner = λ e. p .another (sym e ∙ current) in
-    let once : Assumed (p .once) = earlier _ _ a (p .since) .0 in
-    let module-current : domainOf h ≢ trusted =
-    λ e. freed-by-module (p .once) once (ramByte (p .had .address)) (p .had .blocks) (p .freed) (p .byIt ∙ sym current ∙ e) in
+pub out-of-reach : Protected
+out-of-reach h d g m other-module another =
     record {
-      refused = refused-store h i g (p .has) other module-current;
-      same = same-bytes h i g (p .has) other module-current;
-      stays = λ o. segment-stays h i g (p .has) o (λ gives. other (gives .0));
-      held = λ l b. held-on h g (p .has) _ (λ k o keeps. keeps) b;
-      forLong = λ l b x q along. (held-on h g (p .has) _ (λ k o keeps. keeps .0) b along, same-on h g (p .has) x q b along);
+      held = there;
+      forLong = λ l a x q along. same-on h g m x q a along;
+      powerless = λ l k now.
+          let i : HoldsAfter l = always l (k .0) .1 in
+          record {
+            refused = refused-store l i g (there l k) (other l now) (module-current l now);
+            same = same-bytes l i g (there l k) (other l now) (module-current l now);
+            stays = λ o. segment-stays l i g (there l k) o (λ gives. other l now (gives .0));
+          };
     }
+  where
+    there : (l : History) → NotGivenUp g h l → g ∈ ledger l
+    there l k = held-on h g m _ (λ _ _ keeps. keeps) (k .0) (k .1)
+
+    other : (l : History) → domainOf l ≡ d → domainOf l ≢ g .owner
+    other l now e = another (sym e ∙ now)
+
+    module-current : (l : History) → domainOf l ≡ d → domainOf l ≢ trusted
+    module-current l now e = other-module (sym now ∙ e)
+
+pub incident : NoIncident
+incident h a d g p =
+    out-of-reach h d g (p .has)
+    (λ e. freed-by-module (p .once) (earlier _ _ a (p .since) .0) (ramByte (p .had .address)) _ (says-done _ _ (p .freed, refl)) (p .byIt ∙ e))
+    (p .another)

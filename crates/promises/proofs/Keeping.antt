@@ -16,7 +16,7 @@ use Rattle.rules.specs.declared.Answer.the-variants.{Done, Refused}
 use Rattle.rules.specs.Memory.{blockOf, blocksFor, heapBlock, codeOf, ownerOf}
 use Rattle.rules.specs.State.{ramByte}
 use Rattle.rules.specs.Store.{ownerAt}
-use Rattle.rules.specs.Free.{isSegment, blocksAt, freeAnswer, changeAnswer}
+use Rattle.rules.specs.Free.{isSegment, segmentBlocks, blocksAt, freeAnswer, changeAnswer}
 use Rattle.laws.proofs.Tests.{byTest}
 use Rattle.laws.proofs.Rows.{passed, give-answer}
 use Rattle.laws.proofs.Blocks.{blocksFor-holds, blocksFor-less}
@@ -26,7 +26,8 @@ use Rattle.promises.specs.Ledger.{Segment, entered, replacedAt, struck, 
 use Rattle.promises.specs.Calls.{OpenCall, domainBy, openCalls}
 use Rattle.promises.specs.Promise.{_∈_, OwnSegment, GivenSegment, GivesUp}
 use Rattle.promises.proofs.Row.{replaced-has}
-use Rattle.promises.proofs.Shown.{member-owner}
+use Rattle.promises.proofs.Says.{done-says}
+use Rattle.promises.proofs.Shown.{member-blocks, member-owner}
 use Rattle.promises.proofs.Holds.{Holds, HoldsAfter}
 use Rattle.promises.proofs.Free.{freeRows, changeRows, SegmentAt, segment-at}
 
@@ -62,22 +63,31 @@ module _ (s : State) (ram : List ℕ) (gs : List Segment) (ks : List OpenCall) (
       ∙ ap (λ (x : ℕ). ownerOf (codeOf (s .config .bot) ram (blockOf (s .config .bot) (ramByte x)))) (sym q)
       ∙ member-owner (s .config) ram (heapBlock (s .config)) gs (i .row) (i .heap) g m
 
-  free-stays : (a : RamByte) (v : ℕ) → freeAnswer s ram a ≡ Done v → (g .address ≡ a .0 → s .domain ≡ g .owner → ⊥)
+  -- and how many blocks it has
+  count : (a : RamByte) (v : ℕ) → Done (blocksAt s ram a) ≡ Done v → g .address ≡ a .0 → v ≡ g .blocks
+  count a v e q =
+      let n : blocksAt s ram a ≡ v = cc in
+      sym n
+      ∙ ap (λ (x : ℕ). segmentBlocks (s .config) ram (blockOf (s .config .bot) (ramByte x))) (sym q)
+      ∙ member-blocks (s .config) ram (heapBlock (s .config)) gs (i .row) (i .heap) g m
+
+  free-stays : (a : RamByte) (v : ℕ) → freeAnswer s ram a ≡ Done v → (g .address ≡ a .0 → s .domain ≡ g .owner → v ≡ g .blocks → ⊥)
       → g ∈ replacedAt (a .0) struck gs
   free-stays a v e other =
-      let (t, _) = passed (freeRows s ram a) (Done (blocksAt s ram a)) v e in
-      replaced-keeps (a .0) struck g (λ q. other q (own a (eqb-true _ _ (not-false _ (t .1 .1 .1 .0))) q)) gs m
+      let (t, last) = passed (freeRows s ram a) (Done (blocksAt s ram a)) v e in
+      replaced-keeps (a .0) struck g (λ q. other q (own a (eqb-true _ _ (not-false _ (t .1 .1 .1 .0))) q) (count a v last q)) gs m
 
   -- made over to the domain that has it, it is what it was
-  change-stays : (a : RamByte) (d v : ℕ) → changeAnswer s ram a d ≡ Done v → (g .address ≡ a .0 → s .domain ≡ g .owner → d ≢ g .owner → ⊥)
+  change-stays : (a : RamByte) (d v : ℕ) → changeAnswer s ram a d ≡ Done v
+      → (g .address ≡ a .0 → s .domain ≡ g .owner → v ≡ g .blocks → d ≢ g .owner → ⊥)
       → g ∈ replacedAt (a .0) (madeOver d) gs
   change-stays a d v e other =
-      let (t, _) = passed (changeRows s ram a d) (Done (blocksAt s ram a)) v e in
+      let (t, last) = passed (changeRows s ram a d) (Done (blocksAt s ram a)) v e in
       elim (ℕ-discrete (g .address) (a .0)) [
         | no n ↦ replaced-keeps (a .0) (madeOver d) g n gs m
         | yes q ↦
             elim (ℕ-discrete d (g .owner)) [
-              | no n ↦ absurd (other q (own a (eqb-true _ _ (not-false _ (t .1 .1 .1 .0))) q) n)
+              | no n ↦ absurd (other q (own a (eqb-true _ _ (not-false _ (t .1 .1 .1 .0))) q) (count a v last q) n)
               | yes w ↦
                   subst (λ (x : ℕ). g ∈ replacedAt x (madeOver d) gs) q
                   (replaced-has (s .config) (madeOver d) g g
@@ -104,10 +114,10 @@ segment-stays h i g m o keeps = by-answer (domainBy (openCalls h)) o (ledger h) 
     done (malloc size) keeps v e = entered-keeps _ g (ledger h) m
     done (free a) keeps v e =
         free-stays (stateOf h) (ramOf h) (ledger h) (openCalls h) i g m a v (sym (give-answer _ (stateOf h) (ramOf h) (stateOf h) _) ∙ e)
-        (λ q own. keeps (own, inl (ap (λ (x : ℕ). free (ramByte x)) (sym q))))
+        (λ q own n. keeps (own, done-says _ _ (e ∙ ap Done n), inl (ap (λ (x : ℕ). free (ramByte x)) (sym q))))
     done (change a d) keeps v e =
         change-stays (stateOf h) (ramOf h) (ledger h) (openCalls h) i g m a d v (sym (give-answer _ (stateOf h) (ramOf h) (stateOf h) _) ∙ e)
-        (λ q own n. keeps (own, inr (d, n, ap (λ (x : ℕ). change (ramByte x) d) (sym q))))
+        (λ q own n other. keeps (own, done-says _ _ (e ∙ ap Done n), inr (d, other, ap (λ (x : ℕ). change (ramByte x) d) (sym q))))
 
 -- ---- what is given is as large as was asked
 

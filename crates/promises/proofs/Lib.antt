@@ -3,6 +3,8 @@
 pub mod Limits
 pub mod Sample
 -- Demand 3
+pub mod Says
+pub mod Parts
 pub mod Row
 pub mod Shown
 pub mod Holds
@@ -13,6 +15,7 @@ pub mod Call
 pub mod Return
 pub mod SetUp
 pub mod Steps
+pub mod Bytes
 pub mod Change
 pub mod Keeping
 pub mod Theorem

@@ -141,7 +141,6 @@ module _ (s : State) (ram : List ℕ) (gs : List Segment) (k : OpenCall) (ks : L
               safepointer≤top = omega (arith, h .good .safepointer≤top);
             };
         size = h .size;
-        bytes = h .bytes;
         row = h .row;
         heap = h .heap;
         other = h .other;
@@ -158,10 +157,10 @@ module _ (s : State) (ram : List ℕ) (gs : List Segment) (k : OpenCall) (ks : L
 -- ---- both
 
 pub return-gives : (s : State) (ram : List ℕ) (gs : List Segment) (ks : List OpenCall) → Holds s ram gs ks → Returns ks (returnOf s ram)
-return-gives s ram gs [] h = rw (no-frame s ram gs h)
+return-gives s ram gs [] h = rw (no-frame s ram gs h) (refl, refl)
 return-gives s ram gs (k ∷ ks) h =
     rw (returns-site s ram gs k ks h)
-    (refl, ap (λ (t : State). t .domain) (returns-state s ram gs k ks h), ap (λ (t : State). t .bound) (returns-state s ram gs k ks h))
+    ((refl, refl), ap (λ (t : State). t .domain) (returns-state s ram gs k ks h), ap (λ (t : State). t .bound) (returns-state s ram gs k ks h))
 
 pub return-holds : (s : State) (ram : List ℕ) (gs : List Segment) (ks : List OpenCall) → Holds s ram gs ks
     → Kept s gs ks return ram (returnOf s ram)

@@ -1,7 +1,7 @@
 -- Malloc finds room if there is any, and what was freed is room again, until a malloc takes it.
 -- Assumes nothing.
 use Prim.Native.Nat.{ℕ, _+_, _-_, _≤_, _<_}
-use mathlib.Core.Path.{_≡_, refl, sym, _∙_, subst}
+use mathlib.Core.Path.{_≡_, refl, sym, ap, _∙_, subst}
 use mathlib.Core.Bool.{true, true≢false}
 use mathlib.Core.Logic.{_≢_}
 use mathlib.Core.List.{List}
@@ -18,7 +18,7 @@ use Rattle.rules.specs.declared.Answer.the-variants.{Done, Refused}
 use Rattle.rules.specs.declared.Refusal.the-variants.{NoRun}
 use Rattle.rules.specs.Memory.{ramBytes, radix, blockOf, blocksFor, heapBlock, safeBlock, setCodes, freeCode, isFree, trusted}
 use Rattle.rules.specs.State.{goodState}
-use Rattle.rules.specs.Answers.{_⇒_∣_}
+use Rattle.rules.specs.Answers.{_⇒_∣_, numberOf}
 use Rattle.rules.specs.Malloc.{lowestRun, nowhere, addressOf, mallocAnswer, mallocOf}
 use Rattle.rules.specs.Free.{isSegment, blocksAt, freeAnswer}
 use Rattle.laws.proofs.Tests.{byTest}
@@ -31,10 +31,11 @@ use Rattle.laws.proofs.Search.{free-block, block-free, free-run, free-run-at, f
 use Rattle.laws.proofs.Segments.{segment-in-heap}
 use Rattle.laws.proofs.Good.{GoodConfig, goodState-facts, goodState-true, safeBlock≤blocks, mapByte<heap}
 use Rattle.promises.specs.Operations.{Operation, store, call, return, malloc, free, change}
-use Rattle.promises.specs.History.{History, _then_, after, stateOf, ramOf, configOf, answerTo, Assumed, Stretch, none, next}
+use Rattle.promises.specs.History.{History, _then_, after, stateOf, ramOf, configOf, answerTo, Says, Assumed, Stretch, none, next}
 use Rattle.promises.specs.Calls.{domainBy, openCalls}
 use Rattle.promises.specs.Ledger.{Segment, replacedAt, struck, madeOver, booked, ledger, HeapSegment, codeBy}
 use Rattle.promises.specs.Room.{FreeBlocks, RoomFound, FreedRoom, RoomStays}
+use Rattle.promises.proofs.Says.{says-done, done-says}
 use Rattle.promises.proofs.Row.{row-in-heap, InPlaceOf, struck-place, over-place, replaced-free}
 use Rattle.promises.proofs.Holds.{HoldsAfter}
 use Rattle.promises.proofs.Malloc.{somewhere}
@@ -52,12 +53,10 @@ module _ (s : State) (ram : List ℕ) (size : ℕ) (good : goodState s ≡ true)
       give-answer (mallocAnswer s ram size) s ram s _
       ∙ (rw (eq-eqb (length ram) ramBytes n, good, ne-eqb (s .domain) trusted other, ne-eqb size 0 (λ e. omega arith)))
 
-  refused-nowhere : mallocOf s ram size .answer ≡ Refused NoRun → nowhere run ≡ true
+  refused-nowhere : numberOf (mallocOf s ram size .answer) ≡ 17 → nowhere run ≡ true
   refused-nowhere e =
       byTest (nowhere run) (λ t. t)
-      (λ t.
-      let q : Done (addressOf (s .config) run) ≡ Refused NoRun = (rw t at (sym asked ∙ e)) in
-      absurd (let z : _≡_ {A = ℕ} 0 1 = cc in omega arith))
+      (λ t. absurd (omega (arith, rw t at (ap numberOf (sym asked) ∙ e))))
 
   nowhere-run : (f : Found) → nowhere f ≡ true → f ≡ Nowhere
   nowhere-run (At b) t = absurd (true≢false (sym t))
@@ -71,19 +70,19 @@ module _ (s : State) (ram : List ℕ) (size : ℕ) (good : goodState s ≡ true)
       absurd (never (b .0) (free-run-at (s .config) ram (blocksFor size) (b .0) (found (s .config) ram (blocksFor size) b e .1))))
 
   -- where blocks enough are free, it is accepted
-  accepted : (k : ℕ) → FreeBlocks (s .config) ram k (blocksFor size) → (v : ℕ) × (mallocOf s ram size .answer ≡ Done v)
+  accepted : (k : ℕ) → FreeBlocks (s .config) ram k (blocksFor size) → (v : ℕ) × Says (mallocOf s ram size .answer) 0 v
   accepted k room =
       byTest (nowhere run)
       (λ t.
       absurd (run-found (s .config) ram (blocksFor size) k (free-run (s .config) ram (blocksFor size) k room) (blocksFor-pos some) (nowhere-run run t)))
-      (λ t. (addressOf (s .config) run, asked ∙ (rw t)))
+      (λ t. (addressOf (s .config) run, done-says _ _ (asked ∙ (rw t))))
 
 pub room-found : RoomFound
 room-found s ram size good n other some = (
   λ e k room.
       run-found (s .config) ram (blocksFor size) k (free-run (s .config) ram (blocksFor size) k room) (blocksFor-pos some)
-      (nowhere-run s ram size good n other some _ (refused-nowhere s ram size good n other some e)),
-  λ never. asked s ram size good n other some ∙ (rw (no-room s ram size good n other some never)),
+      (nowhere-run s ram size good n other some _ (refused-nowhere s ram size good n other some (e .0))),
+  λ never. rw (asked s ram size good n other some, no-room s ram size good n other some never) (refl, refl),
 )
 
 -- ---- after a free
@@ -117,7 +116,7 @@ module _ (s : State) (ram : List ℕ) (a : RamByte) (n : ℕ) (e : freeAnswer s 
 
 pub freed-room : FreedRoom
 freed-room s ram a n done =
-    let e : freeAnswer s ram a ≡ Done n = sym (give-answer (freeAnswer s ram a) s ram s _) ∙ done in
+    let e : freeAnswer s ram a ≡ Done n = sym (give-answer (freeAnswer s ram a) s ram s _) ∙ says-done _ n done in
     rw e (
       freed-blocks s ram a n e,
       λ next size same good other some fits.
@@ -146,17 +145,17 @@ module _ (h : History) (i : HoldsAfter h) (j : ℕ) (unowned : codeBy (stateOf h
   by-answer o (Refused r) done = unowned
   by-answer o (Done v) done = done v refl
 
-  step-free : (o : Operation) → ((size v : ℕ) → o ≡ malloc size → answerTo h o ≡ Done v → ⊥)
+  step-free : (o : Operation) → ((size v : ℕ) → o ≡ malloc size → Says (answerTo h o) 0 v → ⊥)
       → codeBy (stateOf h .config) (ledger (h then o)) j ≡ freeCode
   unfolding ledger
   step-free o never = by-answer o (answerTo h o) (done o never)
     where
-      done : (o : Operation) → ((size v : ℕ) → o ≡ malloc size → answerTo h o ≡ Done v → ⊥) → (v : ℕ) → answerTo h o ≡ Done v
+      done : (o : Operation) → ((size v : ℕ) → o ≡ malloc size → Says (answerTo h o) 0 v → ⊥) → (v : ℕ) → answerTo h o ≡ Done v
           → codeBy (stateOf h .config) (booked (domainBy (openCalls h)) o (Done v) (ledger h)) j ≡ freeCode
       done (store a b) never v e = unowned
       done (call table t site p) never v e = unowned
       done return never v e = unowned
-      done (malloc size) never v e = absurd (never size v refl e)
+      done (malloc size) never v e = absurd (never size v refl (done-says _ v e))
       done (free a) never v e =
           let (t, _) =
           passed (freeRows (stateOf h) (ramOf h) a) (Done (blocksAt (stateOf h) (ramOf h) a)) v
@@ -180,13 +179,13 @@ free-unheld h assumed j f =
     let (from, to, code) = free-block (configOf h) (ramOf h) j f in
     record { fromHeap = from; toSafe = to; noOwner = sym ((rw e at (i .heap)) j from to) ∙ code }
 
-unheld-free : (h : History) → Assumed h → (j : ℕ) → Unheld h j → isFree (stateOf h .config) (ramOf h) j ≡ true
+unheld-free : (h : History) → Assumed h → (j : ℕ) → Unheld h j → isFree (configOf h) (ramOf h) j ≡ true
 unheld-free h assumed j u =
     let (e, i) = always h assumed in
-    rw e (block-free (configOf h) (ramOf h) j (u .fromHeap) (u .toSafe) ((rw e at (i .heap)) j (u .fromHeap) (u .toSafe) ∙ u .noOwner))
+    block-free (configOf h) (ramOf h) j (u .fromHeap) (u .toSafe) ((rw e at (i .heap)) j (u .fromHeap) (u .toSafe) ∙ u .noOwner)
 
 unheld-on : (from : History) {l : History} → Assumed l → (j : ℕ) → Unheld from j
-    → Stretch (λ k o. (size v : ℕ) → o ≡ malloc size → answerTo k o ≡ Done v → ⊥) from l → Unheld l j
+    → Stretch (λ k o. (size v : ℕ) → o ≡ malloc size → Says (answerTo k o) 0 v → ⊥) from l → Unheld l j
 unfolding configOf
 unheld-on from a j u none = u
 unheld-on from a j u (next {h = k} {o = o} before never) =
@@ -198,16 +197,24 @@ unheld-on from a j u (next {h = k} {o = o} before never) =
       noOwner = rw (← e) (step-free k i j (rw e (w .noOwner)) o never);
     }
 
+same-config : (P : History → Operation → Type 0) (from : History) {l : History} → Stretch P from l → configOf l ≡ configOf from
+unfolding configOf
+same-config P from none = refl
+same-config P from (next before p) = same-config P from before
+
 pub room-stays : RoomStays
 unfolding after configOf
-room-stays h a n done l assumed along other size some fits =
+room-stays h a n done l assumed along =
     let start : Assumed (h then free a) = earlier _ _ assumed along in
-    let (e, i) = always h (start .0) in
-    let (_, j) = always l assumed in
-    accepted (stateOf l) (ramOf l) size (goodState-true (stateOf l) (j .good)) (j .size) other some (blockOf (stateOf h .config .bot) a)
-    (λ k m u.
-    let less : blocksFor size ≤ n = blocksFor-least n fits in
-    unheld-free l assumed k
-    (unheld-on (h then free a) assumed k
-    (free-unheld (h then free a) start k
-    (rw (← e) (freed-room (stateOf h) (ramOf h) a n done .0 k m (omega arith)))) along))
+    let (e, _) = always h (start .0) in
+    let (f, i) = always l assumed in
+    let freed : FreeBlocks (configOf h) (ramOf (h then free a)) (blockOf (configOf h .bot) a) n =
+    rw (← e) (freed-room (stateOf h) (ramOf h) a n done .0) in
+    let room : FreeBlocks (configOf l) (ramOf l) (blockOf (configOf h .bot) a) n =
+    λ k m u. unheld-free l assumed k (unheld-on (h then free a) assumed k (free-unheld (h then free a) start k (freed k m u)) along) in (
+      subst (λ (c : Config). FreeBlocks (configOf l) (ramOf l) (blockOf (c .bot) a) n) (sym (same-config _ _ along)) room,
+      λ other size some fits.
+          let less : blocksFor size ≤ n = blocksFor-least n fits in
+          accepted (stateOf l) (ramOf l) size (goodState-true (stateOf l) (i .good)) (i .size) other some (blockOf (configOf h .bot) a)
+          (λ k m u. rw f (room k m (omega arith))),
+    )

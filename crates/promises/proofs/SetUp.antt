@@ -17,10 +17,9 @@ use Rattle.rules.specs.Memory.{ramBytes}
 use Rattle.rules.specs.State.{goodConfig, fresh, zeros}
 use Rattle.rules.specs.SetUp.{setUpRam, setUpAnswer, setUpOf}
 use Rattle.laws.proofs.Rows.{passed, give-answer}
-use Rattle.laws.proofs.SetUp.{length-setUpRam, setUpRam-bytes, setUpRam-code}
+use Rattle.laws.proofs.SetUp.{length-setUpRam, setUpRam-code}
 use Rattle.laws.proofs.Codes.{setUpCode-heap}
 use Rattle.laws.proofs.Good.{GoodConfig, goodConfig-facts, goodState-facts, fresh-good, heapBlock-pos, safeBlock≤blocks, blocks≤places}
-use Rattle.promises.specs.History.{Bytes}
 use Rattle.promises.specs.Calls.{framesOf}
 use Rattle.promises.proofs.Row.{code-none}
 use Rattle.promises.proofs.Holds.{Holds}
@@ -28,14 +27,13 @@ use Rattle.promises.proofs.Holds.{Holds}
 abbrev setUpRows : Config → List ℕ → List (Bool × Refusal)
 setUpRows c ram = (not (eqb (length ram) ramBytes), WrongSize) ∷ (not (goodConfig c), BrokenRule) ∷ []
 
-fresh-holds : (c : Config) (ram : List ℕ) → goodConfig c ≡ true → length ram ≡ ramBytes → Bytes ram → Holds (fresh c) (setUpRam c ram) [] []
+fresh-holds : (c : Config) (ram : List ℕ) → goodConfig c ≡ true → length ram ≡ ramBytes → Holds (fresh c) (setUpRam c ram) [] []
 unfolding framesOf
-fresh-holds c ram g n bytes =
+fresh-holds c ram g n =
     let facts : GoodConfig c = goodConfig-facts c g in
     record {
       good = goodState-facts (fresh c) (fresh-good c g);
       size = length-setUpRam c ram ∙ n;
-      bytes = setUpRam-bytes c ram bytes;
       row = tt;
       heap = λ k l u.
           setUpRam-code c ram facts n k (omega (arith, safeBlock≤blocks facts, blocks≤places facts))
@@ -47,10 +45,10 @@ fresh-holds c ram g n bytes =
       chain = tt;
     }
 
-pub set-up-holds : (c : Config) (ram : List ℕ) → setUpOf c ram .answer ≡ Done 0 → Bytes ram
+pub set-up-holds : (c : Config) (ram : List ℕ) → setUpOf c ram .answer ≡ Done 0
     → let g = setUpOf c ram in
     (g .state .config ≡ c) × Holds (g .state) (g .ram) [] []
-set-up-holds c ram e bytes =
+set-up-holds c ram e =
     let q : setUpAnswer c ram ≡ Done 0 = sym (give-answer (setUpAnswer c ram) zeros ram (fresh c) (setUpRam c ram)) ∙ e in
     let (t, _) = passed (setUpRows c ram) (Done 0) 0 q in
-    rw q (refl, fresh-holds c ram (not-false _ (t .1 .0)) (eqb-true _ _ (not-false _ (t .0))) bytes)
+    rw q (refl, fresh-holds c ram (not-false _ (t .1 .0)) (eqb-true _ _ (not-false _ (t .0))))

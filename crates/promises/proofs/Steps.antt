@@ -3,52 +3,22 @@
 use Prim.Native.Nat.{ℕ}
 use mathlib.Core.Path.{_≡_, refl, sym, _∙_, subst}
 use mathlib.Core.Logic.{_⊎_, inl, inr, ⊎-elim}
-use mathlib.Core.List.{List}
 use Rattle.rules.specs.declared.RamByte.{RamByte}
 use Rattle.rules.specs.declared.Config.{Config}
-use Rattle.rules.specs.declared.State.{State}
-use Rattle.rules.specs.declared.Frame.{Frame}
-use Rattle.rules.specs.declared.Frame.the-variants.{Local, Cross, Damage}
-use Rattle.rules.specs.declared.Answer.{Answer}
-use Rattle.rules.specs.declared.Answer.the-variants.{Done, Refused}
 use Rattle.rules.specs.Memory.{trusted}
-use Rattle.rules.specs.Answers.{give}
-use Rattle.rules.specs.Store.{storeAnswer}
-use Rattle.rules.specs.Call.{callAnswer}
-use Rattle.rules.specs.Return.{topFrame, returned, returnAnswer}
-use Rattle.rules.specs.Malloc.{mallocAnswer}
-use Rattle.rules.specs.Free.{freeAnswer, changeAnswer}
-use Rattle.promises.specs.Operations.{Operation, store, call, return, malloc, free, change, Fits, step}
+use Rattle.promises.specs.Operations.{Operation, store, call, return, malloc, free, change, step}
 use Rattle.promises.specs.History.{History, setUp, _then_, after, stateOf, ramOf, configOf, answerTo, StoredBy, InMap, InSafeStack, Assumed, Stretch, none, next}
 use Rattle.promises.specs.Ledger.{ledger}
 use Rattle.promises.specs.Calls.{noted, openCalls}
 use Rattle.promises.proofs.Holds.{Holds, After, Kept, HoldsAfter}
+use Rattle.promises.proofs.Says.{says-done, done-says}
+use Rattle.promises.proofs.Parts.{step-config}
 use Rattle.promises.proofs.SetUp.{set-up-holds}
 use Rattle.promises.proofs.Store.{store-holds}
 use Rattle.promises.proofs.Call.{call-holds}
 use Rattle.promises.proofs.Return.{return-holds}
 use Rattle.promises.proofs.Malloc.{malloc-holds}
 use Rattle.promises.proofs.Free.{free-holds, change-holds}
-
--- ---- the configuration stays
-
-give-config : (x : Answer) (s : State) (ram : List ℕ) (s′ : State) (ram′ : List ℕ) → s′ .config ≡ s .config
-    → give x s ram s′ ram′ .state .config ≡ s .config
-give-config (Done v) s ram s′ ram′ e = e
-give-config (Refused r) s ram s′ ram′ e = refl
-
-returned-config : (s : State) (f : Frame) → returned s f .config ≡ s .config
-returned-config s (Local site) = refl
-returned-config s (Cross site bound domain) = refl
-returned-config s Damage = refl
-
-pub step-config : (s : State) (ram : List ℕ) (o : Operation) → step s ram o .state .config ≡ s .config
-step-config s ram (store a b) = give-config (storeAnswer s ram a) s ram s _ refl
-step-config s ram (call table t site p) = give-config (callAnswer s ram table t site p) s ram _ _ refl
-step-config s ram return = give-config (returnAnswer s ram) s ram _ ram (returned-config s (topFrame s ram))
-step-config s ram (malloc size) = give-config (mallocAnswer s ram size) s ram s _ refl
-step-config s ram (free a) = give-config (freeAnswer s ram a) s ram s _ refl
-step-config s ram (change a d) = give-config (changeAnswer s ram a d) s ram s _ refl
 
 -- ---- one operation
 
@@ -81,8 +51,7 @@ other-kept h i (change a d) n = change-holds (stateOf h) (ramOf h) (ledger h) (o
 
 abbrev StepHolds : History → Operation → Type 0
 StepHolds h o =
-    Fits o
-    → ((x : ℕ) → StoredBy h o x trusted → InMap (stateOf h .config) x ⊎ InSafeStack (stateOf h .config) x → ⊥)
+    ((x : ℕ) → StoredBy h o x trusted → InMap (stateOf h .config) x ⊎ InSafeStack (stateOf h .config) x → ⊥)
     → After (stateOf h) (ledger h) (openCalls h) o (step (stateOf h) (ramOf h) o)
 
 step-holds : (h : History) → HoldsAfter h → (o : Operation) → StepHolds h o
@@ -90,23 +59,24 @@ step-holds h i o =
     ⊎-elim
     (λ w.
     subst (StepHolds h) (sym (w .2))
-    (λ fits quiet.
-    store-holds (stateOf h) (ramOf h) (ledger h) (openCalls h) i (w .0) (w .1) (fits .1) (λ e d. quiet (w .0 .0) (w .1, refl, e, d))))
-    (λ n fits quiet. other-kept h i o n .0)
+    (λ quiet.
+    store-holds (stateOf h) (ramOf h) (ledger h) (openCalls h) i (w .0) (w .1)
+    (λ e d. quiet (w .0 .0) (w .1, refl, done-says _ 0 e, d))))
+    (λ n quiet. other-kept h i o n .0)
     (as-store o)
 
 -- ---- every history
 
 pub always : (h : History) → Assumed h → (stateOf h .config ≡ configOf h) × HoldsAfter h
 unfolding after configOf ledger openCalls
-always (setUp c ram) a = set-up-holds c ram (a .0) (a .1)
+always (setUp c ram) a = set-up-holds c ram (says-done _ 0 a)
 always (h then o) a =
     let (e, i) = always h (a .0) in (
       step-config (stateOf h) (ramOf h) o ∙ e,
       subst
           (λ (c : Config). Holds (stateOf (h then o)) (ramOf (h then o)) (ledger (h then o)) (noted c o (answerTo h o) (openCalls h))) e
-          (step-holds h i o (a .1)
-          (subst (λ (c : Config). (x : ℕ) → StoredBy h o x trusted → InMap c x ⊎ InSafeStack c x → ⊥) (sym e) (a .2))),
+          (step-holds h i o
+          (subst (λ (c : Config). (x : ℕ) → StoredBy h o x trusted → InMap c x ⊎ InSafeStack c x → ⊥) (sym e) (a .1))),
     )
 
 -- a history is as assumed at each moment of it

@@ -24,7 +24,6 @@ use Rattle.rules.specs.Store.{isTrusted, ownerAt, ofOther, aboveBound, storeAns
 use Rattle.laws.proofs.Tests.{byTest, neither}
 use Rattle.laws.proofs.Rows.{passed, give-answer}
 use Rattle.laws.proofs.Codes.{setUpCode-owner}
-use Rattle.laws.proofs.Parts.{set-bytes}
 use Rattle.laws.proofs.Good.{GoodConfig, safeBlock≤blocks, blocks≤places, to-top, in-heap}
 use Rattle.promises.specs.Operations.{store}
 use Rattle.promises.specs.History.{InMap, InSafeStack}
@@ -104,8 +103,8 @@ module _ (s : State) (ram : List ℕ) (gs : List Segment) (ks : List OpenCall) (
       ])
 
   -- any other store keeps what holds
-  store-keeps : (x b : ℕ) → b < 256 → (InMap (s .config) x ⊎ InSafeStack (s .config) x → ⊥) → Holds s (set ram x b) gs ks
-  store-keeps x b byte out =
+  store-keeps : (x b : ℕ) → (InMap (s .config) x ⊎ InSafeStack (s .config) x → ⊥) → Holds s (set ram x b) gs ks
+  store-keeps x b out =
       let c : Config = s .config in
       let g : GoodConfig c = h .good .config in
       let n : length (set ram x b) ≡ length ram = length-set ram x b in
@@ -114,7 +113,6 @@ module _ (s : State) (ram : List ℕ) (gs : List Segment) (ks : List OpenCall) (
       record {
         good = h .good;
         size = n ∙ h .size;
-        bytes = set-bytes ram x b (h .bytes) byte;
         row = h .row;
         heap = λ k l u. same k (omega (arith, safeBlock≤blocks g, blocks≤places g)) ∙ h .heap k l u;
         other = λ k l q. same k l ∙ h .other k l q;
@@ -128,10 +126,10 @@ module _ (s : State) (ram : List ℕ) (gs : List Segment) (ks : List OpenCall) (
         chain = h .chain;
       }
 
-  pub store-holds : (a : RamByte) (b : ℕ) → b < 256
+  pub store-holds : (a : RamByte) (b : ℕ)
       → (storeOf s ram a b .answer ≡ Done 0 → s .domain ≡ trusted → InMap (s .config) (a .0) ⊎ InSafeStack (s .config) (a .0) → ⊥)
       → After s gs ks (store a b) (storeOf s ram a b)
-  store-holds a b byte premise = by (storeAnswer s ram a) refl
+  store-holds a b premise = by (storeAnswer s ram a) refl
     where
       by : (x : Answer) → storeAnswer s ram a ≡ x
           → After s gs ks (store a b) (give x s ram s (set ram (a .0) b))
@@ -139,5 +137,5 @@ module _ (s : State) (ram : List ℕ) (gs : List Segment) (ks : List OpenCall) (
       by (Done v) e =
           let (n, last) = passed (storeRows s ram a) (Done 0) v e in
           let (_, who) = stored s ram a v (h .good .domain≤trusted) e in
-          store-keeps (a .0) b byte
+          store-keeps (a .0) b
           (⊎-elim (λ t. premise (give-answer (storeAnswer s ram a) s ram s (set ram (a .0) b) ∙ e ∙ sym last) t) (own-store-place a) who)

@@ -12,6 +12,8 @@ use Rattle.promises.specs.History.{History, _then_, after, stateOf, ramO
 use Rattle.promises.specs.Ledger.{ledger}
 use Rattle.promises.specs.Calls.{openCalls, Returns}
 use Rattle.promises.specs.Promise.{_∈_, IsHeapBlock, StoredByHolder, Demand3}
+use Rattle.promises.proofs.Says.{says-done}
+use Rattle.promises.proofs.Bytes.{stays-bytes}
 use Rattle.promises.proofs.Row.{row-apart, row-in-heap}
 use Rattle.promises.proofs.Shown.{row-shown}
 use Rattle.promises.proofs.Holds.{HoldsAfter}
@@ -38,9 +40,9 @@ promise h a =
       noneShared = none-shared (stateOf h) (ramOf h) (ledger h) (openCalls h) i;
       inHeap = rw (← e) (row-in-heap (stateOf h .config) _ (ledger h) (i .row));
       stays = segment-stays h i;
-      given = given-segment h i;
-      freed = freed-own h i;
-      changed = λ a d n. changed-own h i a n d;
+      given = λ size v e. given-segment h i size v (says-done _ v e);
+      freed = λ a n e. freed-own h i a n (says-done _ n e);
+      changed = λ a d n e. changed-own h i a n d (says-done _ n e);
       safeStack = rw (← e) (i .frames);
       current = i .current;
       bound = i .bound;
@@ -56,5 +58,5 @@ promise h a =
       sameConfig = e;
       good = goodState-true (stateOf h) (i .good);
       size = i .size;
-      bytes = i .bytes;
+      bytes = stays-bytes h a;
     }

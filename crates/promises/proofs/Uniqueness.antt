@@ -1,44 +1,85 @@
 -- What stands behind an equation, or what a rule gives, determines the rest, so no second result satisfies a contract.
 -- Assumes nothing.
-use mathlib.Core.Path.{sym, ap, _∙_}
-use Rattle.rules.specs.Answers.{Given}
-use Rattle.rules.specs.Slot.{GivenToC}
-use Rattle.promises.specs.Uniqueness.{Only, OnlyBoth, Determined, DeterminedToC, Uniqueness}
+use Prim.Native.Nat.{ℕ}
+use mathlib.Core.Path.{_≡_, sym, ap, _∙_}
+use mathlib.Core.List.{List, _++_}
+use lib.ListN.{length, drop}
+use Rattle.rules.specs.Answers.{Given, Gives}
+use Rattle.rules.specs.Slot.{GivenToC, GivesToC}
+use Rattle.promises.specs.Uniqueness.{Only, Only2, Only3, Uniqueness}
 
-only : {A : Type 0} (v : A) → Only v
+only : {A : Type 0} (v : A) → Only (λ (r : A). r ≡ v)
 only v r r′ e e′ = e ∙ sym e′
 
-only-both : {A B : Type 0} (v : A) (w : A → B) → OnlyBoth v w
-only-both v w r r′ x x′ (e, q) (e′, q′) = (e ∙ sym e′, q ∙ ap w (e ∙ sym e′) ∙ sym q′)
-
-determined : (g : Given) → Determined g
-determined g r r′ ram ram′ (a, s, m) (a′, s′, m′) =
+gives : (g : Given) → Only2 (λ r ram. Gives r ram g)
+gives g r r′ ram ram′ (a, s, m) (a′, s′, m′) =
     let answer = a ∙ sym a′ in
     let state = s ∙ sym s′ in
     ((λ i. record { answer = answer i; state = state i }), m ∙ sym m′)
 
-determined-to-c : (g : GivenToC) → DeterminedToC g
-determined-to-c g r r′ slot slot′ ram ram′ (a, s, m) (a′, s′, m′) = (a ∙ sym a′, s ∙ sym s′, m ∙ sym m′)
+gives-to-c : (g : GivenToC) → Only3 (λ r slot ram. GivesToC r slot ram g)
+gives-to-c g r r′ slot slot′ ram ram′ (a, s, m) (a′, s′, m′) = (a ∙ sym a′, s ∙ sym s′, m ∙ sym m′)
+
+-- a text at the start of a place, and its length
+text-once : (text place : List ℕ) → Only2 (λ r left. (r ≡ length text) × (left ≡ text ++ drop r place))
+text-once text place r r′ left left′ (e, f) (e′, f′) =
+    let same : r ≡ r′ = e ∙ sym e′ in
+    (same, f ∙ ap (λ (n : ℕ). text ++ drop n place) same ∙ sym f′)
 
 pub uniqueness : Uniqueness
 uniqueness =
     record {
-      only = only;
-      onlyBoth = only-both;
-      «set_up» = λ c ram. determined _;
-      store = λ s ram a b. determined _;
-      call = λ s ram table t site p. determined _;
-      ret = λ s ram. determined _;
-      malloc = λ s ram size. determined _;
-      free = λ s ram a. determined _;
-      change = λ s ram a d. determined _;
-      «number_of» = λ a. only _;
-      «value_of» = λ a. only _;
-      «hmt_set_up» = λ slot ram. determined-to-c _;
-      «hmt_store» = λ slot ram a b. determined-to-c _;
-      «hmt_call» = λ slot ram table t site p. determined-to-c _;
-      «hmt_return» = λ slot ram. determined-to-c _;
-      «hmt_malloc» = λ slot ram size. determined-to-c _;
-      «hmt_free» = λ slot ram a. determined-to-c _;
-      «hmt_change» = λ slot ram a d. determined-to-c _;
+      gives = gives;
+      givesToC = gives-to-c;
+      «set_up» = λ config ram. gives _;
+      store = λ state ram address byte. gives _;
+      «call_with» = λ tableOf state ram word target site pointer. gives _;
+      call = λ state ram table target site pointer. gives _;
+      ret = λ state ram. gives _;
+      malloc = λ state ram size. gives _;
+      free = λ state ram address. gives _;
+      change = λ state ram address domain. gives _;
+      «number_of» = λ answer. only _;
+      «value_of» = λ answer. only _;
+      «hmt_set_up» = λ ram slot. gives-to-c _;
+      «hmt_store» = λ ram slot address byte. gives-to-c _;
+      «hmt_call» = λ ram slot table target site pointer. gives-to-c _;
+      «hmt_return» = λ ram slot. gives-to-c _;
+      «hmt_malloc» = λ ram slot size. gives-to-c _;
+      «hmt_free» = λ ram slot address. gives-to-c _;
+      «hmt_change» = λ ram slot address domain. gives-to-c _;
+      run = λ printed input out. text-once (printed input (length out)) out;
+      «block_of» = λ bot a. only _;
+      «start_of» = λ bot k. only _;
+      further = λ k n. only _;
+      «first_block» = only _;
+      «is_multiple» = λ a. only _;
+      «blocks_for» = λ size. only _;
+      above = λ a n. only _;
+      below = λ a n. only _;
+      «last_byte» = only _;
+      «zero_byte» = only _;
+      «zero_word» = only _;
+      joined = λ low high. only _;
+      «byte_of» = λ low high. only _;
+      «word_of» = λ low high. only _;
+      entry = λ word. only _;
+      «map_bytes_for» = λ n. only _;
+      low = λ n. only _;
+      high = λ n. only _;
+      push = λ area used frame. only _;
+      pop = λ area used. only _;
+      «good_config» = λ config. only _;
+      «good_state» = λ state. only _;
+      «code_of» = λ bot ram k. only _;
+      «set_code» = λ bot ram k code. only _;
+      «owner_of» = λ code. only _;
+      «starts_segment» = λ code. only _;
+      «start_code» = λ domain. only _;
+      «later_code» = λ domain. only _;
+      «free_code» = only _;
+      «set_run» = λ bot ram k n first later. only _;
+      «segment_blocks» = λ config ram k. only _;
+      «lowest_run» = λ config ram n. only _;
+      «set_up_map» = λ config ram. only _;
     }

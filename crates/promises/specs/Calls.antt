@@ -11,14 +11,13 @@ use Rattle.rules.specs.declared.Frame.{Frame}
 use Rattle.rules.specs.declared.Frame.the-variants.{Local, Cross}
 use Rattle.rules.specs.declared.Answer.{Answer}
 use Rattle.rules.specs.declared.Answer.the-variants.{Done, Refused}
-use Rattle.rules.specs.declared.Refusal.the-variants.{NoFrame}
 use Rattle.rules.specs.Memory.{ramBytes, trusted}
 use Rattle.rules.specs.Code.{isLocal, calledDomain}
 use Rattle.rules.specs.State.{ramByte}
 use Rattle.rules.specs.Call.{frameBytes}
 use Rattle.rules.specs.Answers.{Given}
 use Rattle.promises.specs.Operations.{Operation, store, call, return, malloc, free, change}
-use Rattle.promises.specs.History.{History, setUp, _then_, configOf, answerTo}
+use Rattle.promises.specs.History.{History, setUp, _then_, configOf, answerTo, Says}
 
 -- a cross-domain call was made to a domain, with a stack pointer
 pub data Kind : Type 0 where
@@ -70,9 +69,10 @@ older (k ∷ ks) = ks
 -- what an operation and its answer make of the open calls, newest first
 abbrev pub noted : Config → Operation → Answer → List OpenCall → List OpenCall
 noted c o (Refused r) ks = ks
-noted c (store a b) (Done v) ks = ks
 noted c (call table t site p) (Done v) ks = opened c ks t site p ∷ ks
 noted c return (Done v) ks = older ks
+-- the others leave them
+noted c (store a b) (Done v) ks = ks
 noted c (malloc size) (Done v) ks = ks
 noted c (free a) (Done v) ks = ks
 noted c (change a d) (Done v) ks = ks
@@ -95,5 +95,5 @@ framesOf (k ∷ ks) = framesOf ks ++ frameBytes (frameFor (k .kind) k)
 -- what a return must give, by the calls that are open: refused with 13 if there are none; otherwise the newest one's return site, and
 -- the domain and the bound that were there before it
 abbrev pub Returns : List OpenCall → Given → Type 0
-Returns [] g = g .answer ≡ Refused NoFrame
-Returns (k ∷ ks) g = (g .answer ≡ Done (k .site .0)) × (g .state .domain ≡ k .domain) × (g .state .bound ≡ k .bound)
+Returns [] g = Says (g .answer) 13 0
+Returns (k ∷ ks) g = Says (g .answer) 0 (k .site .0) × (g .state .domain ≡ k .domain) × (g .state .bound ≡ k .bound)

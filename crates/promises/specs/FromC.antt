@@ -1,21 +1,21 @@
 -- Document 02, Ask 1, and demand 3: a sequence of calls from C, on one slot and one RAM, is a history of the rules. `from-c` of
 -- proofs/FromC.antt proves it.
--- Assumes nothing.
-use Prim.Native.Nat.{ℕ, _<_}
+-- No axiom.
+use Prim.Native.Nat.{ℕ}
 use mathlib.Core.Path.{_≡_}
 use mathlib.Core.Bool.{cond}
 use mathlib.Core.Logic.{_⊎_}
 use mathlib.Core.List.{List, []}
-use lib.ListN.{length}
+use lib.ListN.{length, getD}
 use lib.Dec.{eqb}
 use Rattle.rules.specs.Memory.{trusted}
 use Rattle.rules.specs.Code.{flashWord}
 use Rattle.rules.specs.State.{ramByte}
 use Rattle.rules.specs.Answers.{Given}
-use Rattle.rules.specs.Slot.{configIn, stateIn, slotOf, packed, GivenToC, tableBytes, tableIn, cSetUpOf, cStoreOf, cCallOf, cReturnOf, cMallocOf, cFreeOf, cChangeOf}
+use Rattle.rules.specs.Slot.{domainIn, configIn, stateIn, slotOf, packed, GivenToC, tableBytes, tableIn, cSetUpOf, cStoreOf, cCallOf, cReturnOf, cMallocOf, cFreeOf, cChangeOf}
 use Rattle.promises.specs.Operations as rule
 use Rattle.promises.specs.Operations.{Operation}
-use Rattle.promises.specs.History.{History, setUp, _then_, after, stateOf, ramOf, configOf, StoredBy, InMap, InSafeStack, Bytes}
+use Rattle.promises.specs.History.{History, setUp, _then_, after, InMap, InSafeStack}
 use Rattle.promises.specs.Promise.{Promise}
 
 -- ---- calls from C, and a sequence of them
@@ -76,25 +76,26 @@ pub record Same (c : GivenToC) (g : Given) : Type 0 where
 
 -- ---- what is assumed, and what is promised
 
--- operands as wide as C's types: uint16_t and uint8_t; the table's bytes are bytes
-abbrev pub Wide : CallFromC → Type 0
-Wide (store a b) = (a < 65536) × (b < 256)
-Wide (call table t site p) = Bytes table × (t < 65536) × (site < 65536) × (p < 65536)
-Wide return = Unit {0}
-Wide (malloc size) = size < 65536
-Wide (free a) = a < 65536
-Wide (change a d) = (a < 65536) × (d < 256)
+-- hmt_set_up answered 0
+abbrev pub SetUpDone : RunFromC → Type 0
+SetUpDone (setUpFromC slot ram) = cSetUpOf slot ram .answer ≡ 0
+SetUpDone (r next o) = SetUpDone r
 
--- demand 3's premise: hmt_set_up answered 0 on RAM that holds bytes, and no trusted store lands in the map or the safe stack area
-abbrev pub AssumedFromC : RunFromC → Type 0
-AssumedFromC (setUpFromC slot ram) = (cSetUpOf slot ram .answer ≡ 0) × Bytes ram
-AssumedFromC (r next o) =
-    AssumedFromC r × Wide o
-    × ((x : ℕ) → StoredBy (historyOf r) (operationOf o) x trusted → InMap (configOf (historyOf r)) x ⊎ InSafeStack (configOf (historyOf r)) x → ⊥)
+-- demand 3's premise: no hmt_store that answers 0 while byte 46 of the slot is 7, the trusted domain, lands in the map or the safe stack
+-- area of the configuration that the slot holds
+abbrev pub PremiseFromC : RunFromC → Type 0
+PremiseFromC (setUpFromC slot ram) = Unit {0}
+PremiseFromC (r next o) =
+    let slot = afterFromC r .slot in
+    PremiseFromC r
+    × ((x b : ℕ) → o ≡ store x b → cStoreOf slot (afterFromC r .ram) (ramByte x) b .answer ≡ 0 → getD slot domainIn 0 ≡ trusted
+    → InMap (configIn slot) x ⊎ InSafeStack (configIn slot) x → ⊥)
 
 pub record FromC (r : RunFromC) : Type 0 where
+  -- whatever was called, the run is a history of the rules, answer for answer
   pub same : Same (afterFromC r) (after (historyOf r))
-  pub promise : Promise (historyOf r)
+  -- and demand 3 holds of it under its premise
+  pub promise : PremiseFromC r → Promise (historyOf r)
 
 abbrev pub Demand3FromC : Type 0
-Demand3FromC = (r : RunFromC) → AssumedFromC r → FromC r
+Demand3FromC = (r : RunFromC) → SetUpDone r → FromC r

@@ -5,15 +5,15 @@ use mathlib.Core.Path.{_≡_}
 use mathlib.Core.Logic.{_⊎_}
 use mathlib.Core.List.{List}
 use lib.ListN.{getD}
+use Rattle.rules.specs.declared.RamByte.{RamByte}
 use Rattle.rules.specs.declared.Config.{Config}
 use Rattle.rules.specs.declared.State.{State}
 use Rattle.rules.specs.declared.Answer.{Answer}
-use Rattle.rules.specs.declared.Answer.the-variants.{Done}
 use Rattle.rules.specs.Memory.{mapBytes, trusted}
 use Rattle.rules.specs.State.{ramByte}
-use Rattle.rules.specs.Answers.{Given}
+use Rattle.rules.specs.Answers.{Given, numberOf, valueOf}
 use Rattle.rules.specs.SetUp.{setUpOf}
-use Rattle.promises.specs.Operations.{Operation, store, Fits, step}
+use Rattle.promises.specs.Operations.{Operation, store, step}
 
 infixl 5 _then_
 -- read from left to right: `setUp c ram then malloc 20 then return`
@@ -44,13 +44,17 @@ domainOf h = stateOf h .domain
 abbrev pub byteAt : History → ℕ → ℕ
 byteAt h x = getD (ramOf h) x 0
 
+-- an answer as section 6 numbers it: its number is n and its value v; 0 is done
+abbrev pub Says : Answer → ℕ → ℕ → Type 0
+Says a n v = (numberOf a ≡ n) × (valueOf a ≡ v)
+
 -- what an operation is answered when it is asked next
 abbrev pub answerTo : History → Operation → Answer
 answerTo h o = step (stateOf h) (ramOf h) o .answer
 
 -- the operation asked next stores some byte b to address x, and is carried out while domain d is current
 abbrev pub StoredBy : History → Operation → ℕ → ℕ → Type 0
-StoredBy h o x d = (b : ℕ) × (o ≡ store (ramByte x) b) × (answerTo h o ≡ Done 0) × (domainOf h ≡ d)
+StoredBy h o x d = (b : ℕ) × (o ≡ store (ramByte x) b) × Says (answerTo h o) 0 0 × (domainOf h ≡ d)
 
 -- address x lies in the map; in the safe stack area
 abbrev pub InMap : Config → ℕ → Type 0
@@ -59,14 +63,18 @@ InMap c x = (c .bot .0 ≤ x) × (x < c .bot .0 + mapBytes c)
 abbrev pub InSafeStack : Config → ℕ → Type 0
 InSafeStack c x = (c .safe .0 ≤ x) × (x < c .top .0)
 
+-- All that is assumed: "after an accepted set-up", and "in which no trusted store lands in the map or the safe stack area"
+abbrev pub Assumed : History → Type 0
+Assumed (setUp c ram) = Says (setUpOf c ram .answer) 0 0
+Assumed (h then o) = Assumed h × ((x : ℕ) → StoredBy h o x trusted → InMap (configOf h) x ⊎ InSafeStack (configOf h) x → ⊥)
+
+-- each number of a list is a byte; and each was one that set-up was lent, or that was to be stored
 abbrev pub Bytes : List ℕ → Type 0
 Bytes ram = (i : ℕ) → getD ram i 0 < 256
 
--- All that is assumed: "after an accepted set-up", on RAM that holds bytes; operands as wide as section 5 says; and
--- "in which no trusted store lands in the map or the safe stack area".
-abbrev pub Assumed : History → Type 0
-Assumed (setUp c ram) = (setUpOf c ram .answer ≡ Done 0) × Bytes ram
-Assumed (h then o) = Assumed h × Fits o × ((x : ℕ) → StoredBy h o x trusted → InMap (configOf h) x ⊎ InSafeStack (configOf h) x → ⊥)
+abbrev pub BytesGiven : History → Type 0
+BytesGiven (setUp c ram) = Bytes ram
+BytesGiven (h then o) = BytesGiven h × ((a : RamByte) (b : ℕ) → o ≡ store a b → b < 256)
 
 -- a stretch of a history, from one moment to a later one: P holds of each of its operations and of the history before that operation
 pub data Stretch (P : History → Operation → Type 0) (from : History) : History → Type 0 where

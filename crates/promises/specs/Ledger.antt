@@ -44,12 +44,13 @@ madeOver d f = record { address = f .address; blocks = f .blocks; owner = d } �
 -- what an operation and its answer make of the ledger; d is the domain that was current
 abbrev pub booked : ℕ → Operation → Answer → List Segment → List Segment
 booked d o (Refused r) gs = gs
-booked d (store a b) (Done v) gs = gs
-booked d (call table t site p) (Done v) gs = gs
-booked d return (Done v) gs = gs
 booked d (malloc size) (Done v) gs = entered (record { address = v; blocks = blocksFor size; owner = d }) gs
 booked d (free a) (Done v) gs = replacedAt (a .0) struck gs
 booked d (change a e) (Done v) gs = replacedAt (a .0) (madeOver e) gs
+-- the others leave it
+booked d (store a b) (Done v) gs = gs
+booked d (call table t site p) (Done v) gs = gs
+booked d return (Done v) gs = gs
 
 unfoldable pub ledger : History → List Segment
 ledger (setUp c ram) = []

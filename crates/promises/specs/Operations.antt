@@ -1,8 +1,7 @@
 -- What can be asked of the machine (section 5), as data, and what the rules then give.
 -- No axiom.
-use Prim.Native.Nat.{ℕ, _<_}
+use Prim.Native.Nat.{ℕ}
 use mathlib.Core.List.{List}
-use lib.ListN.{getD}
 use Rattle.rules.specs.declared.RamByte.{RamByte}
 use Rattle.rules.specs.declared.FlashWord.{FlashWord}
 use Rattle.rules.specs.declared.State.{State}
@@ -21,15 +20,6 @@ pub data Operation : Type 0 where
   malloc : (size : ℕ) → Operation
   free : (address : RamByte) → Operation
   change : (address : RamByte) (domain : ℕ) → Operation
-
--- "Operands are sixteen-bit, a stored byte and a new domain eight-bit." Section 3: a table has "sixteen-bit words".
-abbrev pub Fits : Operation → Type 0
-Fits (store a b) = (a .0 < 65536) × (b < 256)
-Fits (call table t site p) = ((i : ℕ) → getD table i 0 < 65536) × (t .0 < 65536) × (site .0 < 65536) × (p .0 < 65536)
-Fits return = Unit {0}
-Fits (malloc size) = size < 65536
-Fits (free a) = a .0 < 65536
-Fits (change a d) = (a .0 < 65536) × (d < 256)
 
 -- the answer, the state and RAM after an operation, by its rule
 abbrev pub step : State → List ℕ → Operation → Given

@@ -11,12 +11,11 @@ use lib.ListN.{length}
 use lib.Seq.{slice}
 use Rattle.rules.specs.declared.RamByte.{RamByte}
 use Rattle.rules.specs.declared.Config.{Config}
-use Rattle.rules.specs.declared.Answer.the-variants.{Done}
 use Rattle.rules.specs.Memory.{ramBytes, blockBytes, heapBlock, safeBlock, mapBytes, perByte, codeOf, trusted}
 use Rattle.rules.specs.State.{ramByte, goodState}
 use Rattle.rules.specs.SetUp.{setUpCode}
 use Rattle.promises.specs.Operations.{Operation, return, malloc, free, change}
-use Rattle.promises.specs.History.{History, _then_, after, stateOf, ramOf, configOf, domainOf, answerTo, byteAt, StoredBy, Bytes, Assumed, Stretch}
+use Rattle.promises.specs.History.{History, _then_, after, stateOf, ramOf, configOf, domainOf, answerTo, byteAt, StoredBy, Says, Bytes, BytesGiven, Assumed, Stretch}
 use Rattle.promises.specs.Ledger.{Segment, ledger, InSegment, HeapSegment, Apart, codeBy, shown}
 use Rattle.promises.specs.Calls.{OpenCall, cross, openCalls, domainBy, boundBy, framesOf, Returns}
 
@@ -43,10 +42,11 @@ GivenSegment h size v =
     (g : Segment) × (g ∈ ledger (h then malloc size)) × (g .address ≡ v) × (g .owner ≡ domainOf h)
     × (size ≤ g .blocks * blockBytes) × (g .blocks * blockBytes < size + blockBytes)
 
--- the operation asked next gives g up: its own domain asks to free it, or to make it over to another
+-- the operation asked next gives g up: it is done while g's own domain is current, and frees g or makes it over to another domain
 abbrev pub GivesUp : Segment → History → Operation → Type 0
 GivesUp g h o =
     (domainOf h ≡ g .owner)
+    × Says (answerTo h o) 0 (g .blocks)
     × ((o ≡ free (ramByte (g .address))) ⊎ ((e : ℕ) × (e ≢ g .owner) × (o ≡ change (ramByte (g .address)) e)))
 
 -- the operation asked next is a store to x that is carried out while the segment's domain, or the trusted one, is current
@@ -70,14 +70,14 @@ pub record Promise (h : History) : Type 0 where
   pub noneShared : (f g : Segment) → f ∈ ledger h → g ∈ ledger h → (x : ℕ) → InSegment f x → InSegment g x → f ≡ g
   -- each lies in the heap, none is empty, and their owners are 0 to 6
   pub inHeap : (g : Segment) → g ∈ ledger h → HeapSegment (configOf h) g
-  -- only its own domain gives a segment up: it stays, whatever else is asked next
+  -- only its own domain gives a segment up: it stays, whatever else is asked or refused next
   pub stays : (g : Segment) → g ∈ ledger h → (o : Operation) → (GivesUp g h o → ⊥) → g ∈ ledger (h then o)
   -- a malloc that is accepted gives the domain that asks a segment at the address that is its value, as large as was asked and less than
   -- a block larger
-  pub given : (size v : ℕ) → answerTo h (malloc size) ≡ Done v → GivenSegment h size v
+  pub given : (size v : ℕ) → Says (answerTo h (malloc size)) 0 v → GivenSegment h size v
   -- a free or a change of owner that is accepted is of a segment of the domain that asks, and its value is how many blocks that has
-  pub freed : (a : RamByte) (n : ℕ) → answerTo h (free a) ≡ Done n → OwnSegment h a n
-  pub changed : (a : RamByte) (d n : ℕ) → answerTo h (change a d) ≡ Done n → OwnSegment h a n
+  pub freed : (a : RamByte) (n : ℕ) → Says (answerTo h (free a)) 0 n → OwnSegment h a n
+  pub changed : (a : RamByte) (d n : ℕ) → Says (answerTo h (change a d)) 0 n → OwnSegment h a n
   -- "the safe stack holds exactly the open calls, oldest first": the bytes from safe to the safe pointer are their frames
   pub safeStack : slice (configOf h .safe .0) (stateOf h .safepointer .0) (ramOf h) ≡ framesOf (openCalls h)
   -- and the current domain and the stack bound are those that the open calls leave, the trusted domain and 4095 if there are none
@@ -89,22 +89,23 @@ pub record Promise (h : History) : Type 0 where
   -- whether the segment was there before or is made by that operation;
   pub segmentStep : (g : Segment) (o : Operation) → (g ∈ ledger h) ⊎ (g ∈ ledger (h then o)) → (x : ℕ) → InSegment g x
       → byteAt (h then o) x ≢ byteAt h x → StoredByHolder g x h o
-  -- and over any stretch up to now in which the segment was made or stayed, and none was such a store, each of its bytes is what it was
+  -- and over any stretch up to now in which the segment was made or stayed, a byte of it is what it was if no such store was made to it
   pub segmentStretch : (g : Segment) (x : ℕ) → InSegment g x → (from : History)
       → Stretch (λ l o. ((g ∈ ledger l) ⊎ (g ∈ ledger (l then o))) × (StoredByHolder g x l o → ⊥)) from h → byteAt h x ≡ byteAt from x
   -- "while a cross-domain call is open, stack bytes above its pointer change only by trusted stores": if the operation asked next changes
   -- one, it is a trusted store, whether the call was open before or is opened by that operation;
   pub stackStep : (k : OpenCall) (o : Operation) → (k ∈ openCalls h) ⊎ (k ∈ openCalls (h then o)) → (x : ℕ) → AbovePointer k x
       → byteAt (h then o) x ≢ byteAt h x → StoredBy h o x trusted
-  -- and over any stretch up to now in which the call was opened or open, whatever calls and returns lie between, and none was a trusted
-  -- store to the byte, it is what it was
+  -- and over any stretch up to now in which the call was opened or open, whatever calls and returns lie between, such a byte is what it
+  -- was if no trusted store was made to it
   pub stackStretch : (k : OpenCall) (x : ℕ) → AbovePointer k x → (from : History)
       → Stretch (λ l o. ((k ∈ openCalls l) ⊎ (k ∈ openCalls (l then o))) × (StoredBy l o x trusted → ⊥)) from h → byteAt h x ≡ byteAt from x
-  -- the configuration stays as it was given, the state stays good, and RAM stays 4,096 bytes
+  -- the configuration stays as it was given, the state stays good, and RAM stays 4,096 bytes, each below 256 if each was that RAM held
+  -- before set-up or that was to be stored
   pub sameConfig : stateOf h .config ≡ configOf h
   pub good : goodState (stateOf h) ≡ true
   pub size : length (ramOf h) ≡ ramBytes
-  pub bytes : Bytes (ramOf h)
+  pub bytes : BytesGiven h → Bytes (ramOf h)
 
 -- every history that is as assumed keeps the promise
 abbrev pub Demand3 : Type 0

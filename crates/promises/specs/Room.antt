@@ -10,14 +10,12 @@ use lib.ListN.{length}
 use Rattle.rules.specs.declared.RamByte.{RamByte}
 use Rattle.rules.specs.declared.Config.{Config}
 use Rattle.rules.specs.declared.State.{State}
-use Rattle.rules.specs.declared.Answer.the-variants.{Done, Refused}
-use Rattle.rules.specs.declared.Refusal.the-variants.{NoRun}
 use Rattle.rules.specs.Memory.{ramBytes, blockBytes, blockOf, blocksFor, isFree, trusted}
 use Rattle.rules.specs.State.{goodState}
 use Rattle.rules.specs.Malloc.{mallocOf}
 use Rattle.rules.specs.Free.{freeOf}
 use Rattle.promises.specs.Operations.{malloc, free}
-use Rattle.promises.specs.History.{History, _then_, domainOf, answerTo, Assumed, Stretch}
+use Rattle.promises.specs.History.{History, _then_, ramOf, configOf, domainOf, answerTo, Says, Assumed, Stretch}
 
 -- the n blocks from k on are free heap blocks
 abbrev pub FreeBlocks : Config → List ℕ → ℕ → ℕ → Type 0
@@ -28,23 +26,24 @@ abbrev pub RoomFound : Type 0
 RoomFound =
     (s : State) (ram : List ℕ) (size : ℕ)
     → goodState s ≡ true → length ram ≡ ramBytes → s .domain ≢ trusted → 0 < size
-    → (mallocOf s ram size .answer ≡ Refused NoRun) ↔ ((k : ℕ) → FreeBlocks (s .config) ram k (blocksFor size) → ⊥)
+    → Says (mallocOf s ram size .answer) 17 0 ↔ ((k : ℕ) → FreeBlocks (s .config) ram k (blocksFor size) → ⊥)
 
--- after an accepted free of n blocks those blocks are free, and malloc by any module, of up to as many bytes as they have, is accepted
+-- after an accepted free of n blocks those blocks are free, and malloc by any module, of more than 0 and up to as many bytes as they have,
+-- is accepted
 abbrev pub FreedRoom : Type 0
 FreedRoom =
-    (s : State) (ram : List ℕ) (a : RamByte) (n : ℕ) → freeOf s ram a .answer ≡ Done n
+    (s : State) (ram : List ℕ) (a : RamByte) (n : ℕ) → Says (freeOf s ram a .answer) 0 n
     → FreeBlocks (s .config) (freeOf s ram a .ram) (blockOf (s .config .bot) a) n
     × ((next : State) (size : ℕ)
     → next .config ≡ s .config → goodState next ≡ true → next .domain ≢ trusted → 0 < size → size ≤ n * blockBytes
-    → (v : ℕ) × (mallocOf next (freeOf s ram a .ram) size .answer ≡ Done v))
+    → (v : ℕ) × Says (mallocOf next (freeOf s ram a .ram) size .answer) 0 v)
 
--- and so it is whatever lies between, as long as no malloc is accepted: after the free of n blocks and any operations, of whatever domains,
--- malloc by any module, of up to as many bytes as they have, is accepted
+-- and both are so after any operations that follow the free, of whatever domains, as long as no malloc is accepted and demand 3's premise
+-- is kept: no trusted store lands in the map or the safe stack area (`Assumed`)
 abbrev pub RoomStays : Type 0
 RoomStays =
-    (h : History) (a : RamByte) (n : ℕ) → answerTo h (free a) ≡ Done n
+    (h : History) (a : RamByte) (n : ℕ) → Says (answerTo h (free a)) 0 n
     → (l : History) → Assumed l
-    → Stretch (λ k o. (size v : ℕ) → o ≡ malloc size → answerTo k o ≡ Done v → ⊥) (h then free a) l
-    → domainOf l ≢ trusted → (size : ℕ) → 0 < size → size ≤ n * blockBytes
-    → (v : ℕ) × (answerTo l (malloc size) ≡ Done v)
+    → Stretch (λ k o. (size v : ℕ) → o ≡ malloc size → Says (answerTo k o) 0 v → ⊥) (h then free a) l
+    → FreeBlocks (configOf l) (ramOf l) (blockOf (configOf l .bot) a) n
+    × (domainOf l ≢ trusted → (size : ℕ) → 0 < size → size ≤ n * blockBytes → (v : ℕ) × Says (answerTo l (malloc size)) 0 v)

@@ -1,62 +1,111 @@
--- Section 10: "That no second answer can satisfy a contract is itself proved".
--- A contract has one of the forms below, and no two results meet one of that form. That every public function's contract, as it stands in the
--- source, has one of them, is what tools/contracts.py sees to. The theorem is `uniqueness` of proofs/Uniqueness.antt.
+-- Section 10: "That no second answer can satisfy a contract is itself proved": for every public function of every crate, by its name. The
+-- theorem is `uniqueness` of proofs/Uniqueness.antt.
+-- Each field states the contract as it stands in the source, with x for what was lent as x, and x′ for what is left in it. That it does so
+-- word for word, and that no public function lacks its field, is what tools/contracts.py sees to.
 -- No axiom.
-use Prim.Native.Nat.{ℕ}
+use Prim.Native.Nat.{ℕ, _+_, _-_, _*_}
 use mathlib.Core.Path.{_≡_}
-use mathlib.Core.List.{List}
+use mathlib.Core.List.{List, _∷_, _++_}
+use lib.ListN.{length, take, drop, replicate}
+use lib.Seq.{sets}
 use Rattle.rules.specs.declared.RamByte.{RamByte}
 use Rattle.rules.specs.declared.FlashWord.{FlashWord}
+use Rattle.rules.specs.declared.Block.{Block}
 use Rattle.rules.specs.declared.Config.{Config}
 use Rattle.rules.specs.declared.State.{State}
+use Rattle.rules.specs.declared.Frame.{Frame}
 use Rattle.rules.specs.declared.Answer.{Answer}
-use Rattle.rules.specs.declared.Outcome.{Outcome}
+use Rattle.rules.specs.Memory.{ramBytes, startOf, blockOf, blocksFor, isMultiple, mapBytesFor, codeOf, setCode, setCodes, startCode, laterCode, freeCode, ownerOf, startsSegment}
+use Rattle.rules.specs.Code.{flashWord}
+use Rattle.rules.specs.State.{ramByte, goodConfig, goodState}
 use Rattle.rules.specs.Answers.{numberOf, valueOf, Given, Gives}
-use Rattle.rules.specs.SetUp.{setUpOf}
+use Rattle.rules.specs.SetUp.{setUpRam, setUpOf}
 use Rattle.rules.specs.Store.{storeOf}
-use Rattle.rules.specs.Call.{callOf}
-use Rattle.rules.specs.Return.{returnOf}
-use Rattle.rules.specs.Malloc.{mallocOf}
-use Rattle.rules.specs.Free.{freeOf, changeOf}
+use Rattle.rules.specs.Call.{low, high, frameBytes, callOf}
+use Rattle.rules.specs.Return.{readFrame, returnOf}
+use Rattle.rules.specs.Malloc.{block, lowestRun, mallocOf}
+use Rattle.rules.specs.Free.{segmentBlocks, freeOf, changeOf}
 use Rattle.rules.specs.Slot.{GivenToC, GivesToC, cSetUpOf, cStoreOf, cCallOf, cReturnOf, cMallocOf, cFreeOf, cChangeOf}
 
--- a contract of the form `r ≡ v`, or `now (x .exit) ≡ v`: what it is about can be v alone
-abbrev pub Only : {A : Type 0} → A → Type 0
-Only {A} v = (r r′ : A) → r ≡ v → r′ ≡ v → r ≡ r′
+-- no two results meet P; no two pairs, no two triples, of a result and what is left in the places that were lent
+abbrev pub Only : {A : Type 0} → (A → Type 0) → Type 0
+Only {A} P = (r r′ : A) → P r → P r′ → r ≡ r′
 
--- one of the form `(r ≡ v) × (now (x .exit) ≡ w r)`: the result and what is left in x
-abbrev pub OnlyBoth : {A B : Type 0} → A → (A → B) → Type 0
-OnlyBoth {A} {B} v w = (r r′ : A) (x x′ : B) → (r ≡ v) × (x ≡ w r) → (r′ ≡ v) × (x′ ≡ w r′) → (r ≡ r′) × (x ≡ x′)
+abbrev pub Only2 : {A B : Type 0} → (A → B → Type 0) → Type 0
+Only2 {A} {B} P = (r r′ : A) (x x′ : B) → P r x → P r′ x′ → (r ≡ r′) × (x ≡ x′)
 
--- one of the form `Gives r (now (ram .exit)) g`: answer, state and all of RAM
-abbrev pub Determined : Given → Type 0
-Determined g = (r r′ : Outcome) (ram ram′ : List ℕ) → Gives r ram g → Gives r′ ram′ g → (r ≡ r′) × (ram ≡ ram′)
+abbrev pub Only3 : {A B C : Type 0} → (A → B → C → Type 0) → Type 0
+Only3 {A} {B} {C} P =
+    (r r′ : A) (x x′ : B) (y y′ : C) → P r x y → P r′ x′ y′ → (r ≡ r′) × (x ≡ x′) × (y ≡ y′)
 
--- one of the form `GivesToC r (now (slot .exit)) (now (ram .exit)) g`: answer, all of the slot and all of RAM
-abbrev pub DeterminedToC : GivenToC → Type 0
-DeterminedToC g =
-    (r r′ : ℕ) (slot slot′ ram ram′ : List ℕ) → GivesToC r slot ram g → GivesToC r′ slot′ ram′ g
-    → (r ≡ r′) × (slot ≡ slot′) × (ram ≡ ram′)
-
-pub record Uniqueness : Type 1 where
-  -- each form
-  pub only : {A : Type 0} (v : A) → Only v
-  pub onlyBoth : {A B : Type 0} (v : A) (w : A → B) → OnlyBoth v w
-  -- the public functions of the runtime, by their names in the source
-  pub «set_up» : (c : Config) (ram : List ℕ) → Determined (setUpOf c ram)
-  pub store : (s : State) (ram : List ℕ) (a : RamByte) (b : ℕ) → Determined (storeOf s ram a b)
-  pub call : (s : State) (ram table : List ℕ) (t site : FlashWord) (p : RamByte) → Determined (callOf s ram table t site p)
-  pub ret : (s : State) (ram : List ℕ) → Determined (returnOf s ram)
-  pub malloc : (s : State) (ram : List ℕ) (size : ℕ) → Determined (mallocOf s ram size)
-  pub free : (s : State) (ram : List ℕ) (a : RamByte) → Determined (freeOf s ram a)
-  pub change : (s : State) (ram : List ℕ) (a : RamByte) (d : ℕ) → Determined (changeOf s ram a d)
-  pub «number_of» : (a : Answer) → Only (numberOf a)
-  pub «value_of» : (a : Answer) → Only (valueOf a)
-  -- those called from C
-  pub «hmt_set_up» : (slot ram : List ℕ) → DeterminedToC (cSetUpOf slot ram)
-  pub «hmt_store» : (slot ram : List ℕ) (a : RamByte) (b : ℕ) → DeterminedToC (cStoreOf slot ram a b)
-  pub «hmt_call» : (slot ram table : List ℕ) (t site : FlashWord) (p : RamByte) → DeterminedToC (cCallOf slot ram table t site p)
-  pub «hmt_return» : (slot ram : List ℕ) → DeterminedToC (cReturnOf slot ram)
-  pub «hmt_malloc» : (slot ram : List ℕ) (size : ℕ) → DeterminedToC (cMallocOf slot ram size)
-  pub «hmt_free» : (slot ram : List ℕ) (a : RamByte) → DeterminedToC (cFreeOf slot ram a)
-  pub «hmt_change» : (slot ram : List ℕ) (a : RamByte) (d : ℕ) → DeterminedToC (cChangeOf slot ram a d)
+pub record Uniqueness : Type 0 where
+  -- what a rule gives leaves one answer, state and RAM; what a function called from C gives leaves one answer, slot and RAM
+  pub gives : (g : Given) → Only2 (λ r ram. Gives r ram g)
+  pub givesToC : (g : GivenToC) → Only3 (λ r slot ram. GivesToC r slot ram g)
+  -- crates/runtime; `tableOf` is a table that has one word everywhere
+  pub «set_up» : (config : Config) (ram : List ℕ) → Only2 (λ r ram′. Gives r ram′ (setUpOf config ram))
+  pub store : (state : State) (ram : List ℕ) (address : RamByte) (byte : ℕ)
+      → Only2 (λ r ram′. Gives r ram′ (storeOf state ram address byte))
+  pub «call_with» : (tableOf : ℕ → List ℕ) (state : State) (ram : List ℕ) (word : ℕ) (target site : FlashWord) (pointer : RamByte)
+      → Only2 (λ r ram′. Gives r ram′ (callOf state ram (tableOf word) target site pointer))
+  pub call : (state : State) (ram table : List ℕ) (target site : FlashWord) (pointer : RamByte)
+      → Only2 (λ r ram′. Gives r ram′ (callOf state ram table target site pointer))
+  pub ret : (state : State) (ram : List ℕ) → Only2 (λ r ram′. Gives r ram′ (returnOf state ram))
+  pub malloc : (state : State) (ram : List ℕ) (size : ℕ) → Only2 (λ r ram′. Gives r ram′ (mallocOf state ram size))
+  pub free : (state : State) (ram : List ℕ) (address : RamByte) → Only2 (λ r ram′. Gives r ram′ (freeOf state ram address))
+  pub change : (state : State) (ram : List ℕ) (address : RamByte) (domain : ℕ)
+      → Only2 (λ r ram′. Gives r ram′ (changeOf state ram address domain))
+  pub «number_of» : (answer : Answer) → Only (λ r. r ≡ numberOf answer)
+  pub «value_of» : (answer : Answer) → Only (λ r. r ≡ valueOf answer)
+  -- crates/hmt_c, called from C
+  pub «hmt_set_up» : (ram slot : List ℕ) → Only3 (λ r slot′ ram′. GivesToC r slot′ ram′ (cSetUpOf slot ram))
+  pub «hmt_store» : (ram slot : List ℕ) (address byte : ℕ)
+      → Only3 (λ r slot′ ram′. GivesToC r slot′ ram′ (cStoreOf slot ram (ramByte address) byte))
+  pub «hmt_call» : (ram slot table : List ℕ) (target site pointer : ℕ)
+      → Only3 (λ r slot′ ram′. GivesToC r slot′ ram′ (cCallOf slot ram table (flashWord target) (flashWord site) (ramByte pointer)))
+  pub «hmt_return» : (ram slot : List ℕ) → Only3 (λ r slot′ ram′. GivesToC r slot′ ram′ (cReturnOf slot ram))
+  pub «hmt_malloc» : (ram slot : List ℕ) (size : ℕ) → Only3 (λ r slot′ ram′. GivesToC r slot′ ram′ (cMallocOf slot ram size))
+  pub «hmt_free» : (ram slot : List ℕ) (address : ℕ) → Only3 (λ r slot′ ram′. GivesToC r slot′ ram′ (cFreeOf slot ram (ramByte address)))
+  pub «hmt_change» : (ram slot : List ℕ) (address domain : ℕ)
+      → Only3 (λ r slot′ ram′. GivesToC r slot′ ram′ (cChangeOf slot ram (ramByte address) domain))
+  -- crates/script; `printed` is the text of a script, or nothing where there is no room for it
+  pub run : (printed : List ℕ → ℕ → List ℕ) (input out : List ℕ)
+      → Only2 (λ r out′. (r ≡ length (printed input (length out))) × (out′ ≡ (printed input (length out)) ++ drop r out))
+  -- crates/address
+  pub «block_of» : (bot a : RamByte) → Only (λ r. r ≡ block (blockOf bot a))
+  pub «start_of» : (bot : RamByte) (k : Block) → Only (λ r. r ≡ ramByte (startOf bot (k .0)))
+  pub further : (k : Block) (n : ℕ) → Only (λ r. r ≡ block (k .0 + n))
+  pub «first_block» : Only (λ r. r ≡ block 0)
+  pub «is_multiple» : (a : RamByte) → Only (λ r. r ≡ isMultiple a)
+  pub «blocks_for» : (size : ℕ) → Only (λ r. r ≡ blocksFor size)
+  pub above : (a : RamByte) (n : ℕ) → Only (λ r. r ≡ ramByte (a .0 + n))
+  pub below : (a : RamByte) (n : ℕ) → Only (λ r. r ≡ ramByte (a .0 - n))
+  pub «last_byte» : Only (λ r. r ≡ ramByte (ramBytes - 1))
+  pub «zero_byte» : Only (λ r. r ≡ ramByte 0)
+  pub «zero_word» : Only (λ r. r ≡ flashWord 0)
+  pub joined : (low high : ℕ) → Only (λ r. r ≡ low + 256 * high)
+  pub «byte_of» : (low high : ℕ) → Only (λ r. r ≡ ramByte (low + 256 * high))
+  pub «word_of» : (low high : ℕ) → Only (λ r. r ≡ flashWord (low + 256 * high))
+  pub entry : (word : ℕ) → Only (λ r. r ≡ flashWord word)
+  pub «map_bytes_for» : (n : ℕ) → Only (λ r. r ≡ mapBytesFor n)
+  -- crates/frames
+  pub low : (n : ℕ) → Only (λ r. r ≡ low n)
+  pub high : (n : ℕ) → Only (λ r. r ≡ high n)
+  pub push : (area : List ℕ) (used : ℕ) (frame : Frame) → Only (λ area′. area′ ≡ sets area used (frameBytes frame))
+  pub pop : (area : List ℕ) (used : ℕ) → Only (λ r. r ≡ readFrame (take used area))
+  -- crates/good
+  pub «good_config» : (config : Config) → Only (λ r. r ≡ goodConfig config)
+  pub «good_state» : (state : State) → Only (λ r. r ≡ goodState state)
+  -- crates/map
+  pub «code_of» : (bot : RamByte) (ram : List ℕ) (k : Block) → Only (λ r. r ≡ codeOf bot ram (k .0))
+  pub «set_code» : (bot : RamByte) (ram : List ℕ) (k : Block) (code : ℕ) → Only (λ ram′. ram′ ≡ setCode bot ram (k .0) code)
+  pub «owner_of» : (code : ℕ) → Only (λ r. r ≡ ownerOf code)
+  pub «starts_segment» : (code : ℕ) → Only (λ r. r ≡ startsSegment code)
+  pub «start_code» : (domain : ℕ) → Only (λ r. r ≡ startCode domain)
+  pub «later_code» : (domain : ℕ) → Only (λ r. r ≡ laterCode domain)
+  pub «free_code» : Only (λ r. r ≡ freeCode)
+  pub «set_run» : (bot : RamByte) (ram : List ℕ) (k : Block) (n first later : ℕ)
+      → Only (λ ram′. ram′ ≡ setCodes bot ram (k .0) (first ∷ replicate (n - 1) later))
+  pub «segment_blocks» : (config : Config) (ram : List ℕ) (k : Block) → Only (λ r. r ≡ segmentBlocks config ram (k .0))
+  pub «lowest_run» : (config : Config) (ram : List ℕ) (n : ℕ) → Only (λ r. r ≡ lowestRun config ram n)
+  pub «set_up_map» : (config : Config) (ram : List ℕ) → Only (λ ram′. ram′ ≡ setUpRam config ram)

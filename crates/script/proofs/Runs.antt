@@ -1,7 +1,7 @@
 -- What a run prints, by its tests.
 -- Assumes nothing.
 use Prim.Native.Nat.{ℕ, _+_, _≤_, _<_}
-use mathlib.Core.Path.{_≡_, sym, ap, subst, _∙_}
+use mathlib.Core.Path.{_≡_, ap, subst, _∙_}
 use mathlib.Core.Logic.{_≢_}
 use mathlib.Core.Bool.{Bool, true, false, cond}
 use mathlib.Core.List.{List, [], _++_, append-nil}
@@ -25,12 +25,6 @@ printed-first {l} {m} {text} {wanted} {r} e w =
     let h : 0 + length text ≤ length l = omega (arith, w .place, w .room) in
     let f : 0 + length text ≡ r = omega (arith, w .place) in
     rw e (omega arith, w .bytes ∙ sets-eq text l 0 h ∙ ap (λ (k : ℕ). text ++ drop k l) f)
-
--- no second answer meets the contract of a run
-pub printed-once : (l m m′ text : List ℕ) (r r′ : ℕ) → Printed l m text r → Printed l m′ text r′ → (r ≡ r′) × (m ≡ m′)
-printed-once l m m′ text r r′ (e, f) (e′, f′) =
-    let same : r ≡ r′ = e ∙ sym e′ in
-    (same, f ∙ ap (λ (k : ℕ). text ++ drop k l) same ∙ sym f′)
 
 -- ---- the tests of a run
 
