@@ -79,7 +79,7 @@ static int __attribute__((noinline)) trusted_first_good(const uint8_t *ranges,
 
 /* The code ranges. Modules usually lie in rising order with the trusted code
    before or after them: one pass sees that, and only another order costs the
-   sorting. An end at or below last needs no test against jt. */
+   test of pairs. An end at or below last needs no test against jt. */
 static inline int ranges_good(const uint8_t *ranges, unsigned jt)
 {
     unsigned last = 0, start, end, d;

@@ -32,7 +32,7 @@ static const struct hmt_config config = {
 };
 
 /* Where the main loop's calls return to, and its stack pointer there: a module
-   may use the stack below it. */
+   may use the stack up to it. */
 static const uint16_t loop_site = 50, loop_stack = 4000;
 
 static int wrong;

@@ -202,7 +202,7 @@ uint32_t hmt_store(uint8_t *ram, size_t ram_len,
 /*
  * Calls: target and return site are flash words, pointer is the stack pointer
  * at the call. A target below jt is a local call and ignores the pointer. A
- * target from jt on goes through the jump table into another domain, which
+ * target from jt on goes through the jump table into a domain, which
  * becomes current and may use the stack up to the pointer. Value: the word to
  * go on at (the target, or its table entry).
  *

@@ -98,7 +98,7 @@ pub fn zero_word() -> FlashWord
     FlashWord(0)
 }
 
-// Sixteen bits of a frame or of a script, low byte first.
+// Sixteen bits of a frame, a script or a slot, low byte first.
 pub fn joined(low: u8, high: u8) -> u16
     ensures { λ r. ⌜ r ≡ low + 256 * high ⌝ }
 {

@@ -4,12 +4,12 @@ use Prim.Native.Nat.{ℕ}
 use mathlib.Core.Path.{_≡_, refl}
 use mathlib.Core.Bool.{Bool, true, false}
 use mathlib.Core.List.{List, [], _∷_}
-use native.Mathlib.Omega.{arith}
 use Rattle.rules.specs.declared.State.{State}
 use Rattle.rules.specs.declared.Answer.{Answer}
 use Rattle.rules.specs.declared.Answer.the-variants.{Done, Refused}
 use Rattle.rules.specs.declared.Refusal.{Refusal}
 use Rattle.rules.specs.Answers.{_⇒_∣_, give}
+use Rattle.laws.proofs.Answers.{row-passed}
 
 -- a table of refusals as a list of rows, above the answer below them
 abbrev pub rows : List (Bool × Refusal) → Answer → Answer
@@ -20,15 +20,11 @@ abbrev pub NoRow : List (Bool × Refusal) → Type 0
 NoRow [] = Unit {0}
 NoRow (r ∷ rs) = (r .0 ≡ false) × NoRow rs
 
-passed-one : (t : Bool) (f : Refusal) (below : Answer) (v : ℕ) → (t ⇒ f ∣ below) ≡ Done v → (t ≡ false) × (below ≡ Done v)
-passed-one true f below v h = absurd (let z : _≡_ {A = ℕ} 0 1 = cc in omega arith)
-passed-one false f below v h = (refl, h)
-
 -- what is done has passed each row
 pub passed : (rs : List (Bool × Refusal)) (last : Answer) (v : ℕ) → rows rs last ≡ Done v → NoRow rs × (last ≡ Done v)
 passed [] last v h = (tt, h)
 passed (r ∷ rs) last v h =
-    let (e, g) = passed-one (r .0) (r .1) (rows rs last) v h in
+    let (e, g) = row-passed (r .0) (r .1) (rows rs last) v h in
     let (n, l) = passed rs last v g in
     ((e, n), l)
 

@@ -29,7 +29,7 @@ pub data CallFromC : Type 0 where
   free : (address : ℕ) → CallFromC
   change : (address domain : ℕ) → CallFromC
 
--- what it gives on a slot and RAM: the right-hand sides of the seven contracts
+-- what it gives on a slot and RAM: the right-hand sides of the six contracts
 abbrev pub stepFromC : List ℕ → List ℕ → CallFromC → GivenToC
 stepFromC slot ram (store a b) = cStoreOf slot ram (ramByte a) b
 stepFromC slot ram (call table t site p) = cCallOf slot ram table (flashWord t) (flashWord site) (ramByte p)

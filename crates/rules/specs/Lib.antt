@@ -1,4 +1,4 @@
--- Document 01, a file for each part, in its order; but the answers stand before the operations that give them, and set-up behind them.
+-- Document 01, a file for each part, in its order, and Slot, the one part of document 02 that is built (Ask 1); but the answers stand before the operations that give them, and set-up behind them.
 pub mod Memory
 pub mod Code
 pub mod State
