@@ -10,6 +10,7 @@ use lib.Dec.{eqb, leb, ltb}
 use borrow.Author.Tests.{eq-eqb, ne-eqb, lt-ltb, le-ltb, le-leb, lt-leb, eqb-true, ltb-false, leb-false, not-false}
 use Rattle.rules.specs.declared.RamByte.{RamByte}
 use Rattle.rules.specs.declared.FlashWord.{FlashWord}
+use Rattle.rules.specs.declared.Range.{Range}
 use Rattle.rules.specs.declared.State.{State}
 use Rattle.rules.specs.declared.Answer.{Answer}
 use Rattle.rules.specs.declared.Answer.the-variants.{Done, Refused}
@@ -53,16 +54,16 @@ pub read-entry : (s : State) (word : ℕ) (t e : FlashWord) → tableWord (s .co
     → e ≡ entryOf (s .config) (tableOf word) t
 read-entry s word t e within is = is ∙ sym (ap flashWord (tableOf-at word (tableWord (s .config) t) within))
 
--- an entry e of domain d, as the code reads them
+-- an entry e and the code range r of its domain, as the code reads them
 module _ (s : State) (table : List ℕ) (t e : FlashWord) (is : e ≡ entryOf (s .config) table t) where
   pub zero-entry : e .0 ≡ 0 → goodEntry (s .config) table t ≡ false
   zero-entry h = rw (eq-eqb (entryOf (s .config) table t .0) 0 (rw is at h))
 
-  module _ (d : ℕ) (of : d ≡ calledDomain (s .config) t) where
-    pub entry-outside : inRange (rangeOf (s .config) d) e ≡ false → goodEntry (s .config) table t ≡ false
+  module _ (r : Range) (of : r ≡ rangeOf (s .config) (calledDomain (s .config) t)) where
+    pub entry-outside : inRange r e ≡ false → goodEntry (s .config) table t ≡ false
     entry-outside h = right-false (not (eqb (entryOf (s .config) table t .0) 0)) _ (rw (is, of) at h)
 
-    pub good-entry : (e .0 ≡ 0 → ⊥) → inRange (rangeOf (s .config) d) e ≡ true → goodEntry (s .config) table t ≡ true
+    pub good-entry : (e .0 ≡ 0 → ⊥) → inRange r e ≡ true → goodEntry (s .config) table t ≡ true
     good-entry n h = rw (ne-eqb (entryOf (s .config) table t .0) 0 (rw is at n)) (rw (is, of) at h)
 
 module _ (s : State) (p : RamByte) where
@@ -111,17 +112,8 @@ module _ (s : State) (table : List ℕ) (t : FlashWord) (p : RamByte) where
 -- ---- the whole table
 
 module _ (s : State) (ram table : List ℕ) (t site : FlashWord) (p : RamByte) where
-  pub wrong-table : (length table ≡ tableWords → ⊥) → Refused WrongSize ≡ callAnswer s ram table t site p
-  wrong-table h = rw (ne-eqb (length table) tableWords h, or-true)
-
-  pub wrong-ram : (length ram ≡ ramBytes → ⊥) → Refused WrongSize ≡ callAnswer s ram table t site p
-  wrong-ram h = rw (ne-eqb (length ram) ramBytes h)
-
   module _ (size : length ram ≡ ramBytes) where
     module _ (words : length table ≡ tableWords) where
-      pub bad-state : goodState s ≡ false → Refused BadState ≡ callAnswer s ram table t site p
-      bad-state h = rw (eq-eqb (length ram) ramBytes size, eq-eqb (length table) tableWords words, h)
-
       module _ (good : goodState s ≡ true) where
         pub site-outside : goodSite (s .config) (s .domain) site ≡ false → Refused SiteOutside ≡ callAnswer s ram table t site p
         site-outside h = rw (eq-eqb (length ram) ramBytes size, eq-eqb (length table) tableWords words, good, h)

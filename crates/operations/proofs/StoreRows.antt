@@ -22,13 +22,7 @@ use Rattle.laws.proofs.Blocks.{block-lt}
 use Rattle.laws.proofs.Good.{GoodState, goodState-facts, mapByte<heap}
 
 module _ (s : State) (ram : List ℕ) (a : RamByte) where
-  pub wrong-size : (length ram ≡ ramBytes → ⊥) → Refused WrongSize ≡ storeAnswer s ram a
-  wrong-size h = rw (ne-eqb (length ram) ramBytes h)
-
   module _ (size : length ram ≡ ramBytes) where
-    pub bad-state : goodState s ≡ false → Refused BadState ≡ storeAnswer s ram a
-    bad-state h = rw (eq-eqb (length ram) ramBytes size, h)
-
     module _ (good : goodState s ≡ true) where
       pub past-ram : ramBytes ≤ a .0 → Refused PastRam ≡ storeAnswer s ram a
       past-ram h = rw (eq-eqb (length ram) ramBytes size, good, le-leb ramBytes (a .0) h)

@@ -4,14 +4,16 @@ ghost use mathlib.Core.Bool.{true};
 ghost use Prim.Native.Nat.{_-_, _≤_, _<_};
 ghost use lib.ListN.{length};
 ghost use Rattle.rules.specs.Memory.{ramBytes};
-ghost use Rattle.rules.specs.Code.{tableWords, tableWord, calledDomain};
+ghost use Rattle.rules.specs.Code.{tableWords, rangeOf, tableWord, calledDomain};
 ghost use Rattle.rules.specs.State.{goodState};
 ghost use Rattle.rules.specs.Call.{callAnswer};
-ghost use Rattle.operations.specs.CallRows.{tableOf, localRows, crossRows};
+ghost use Rattle.operations.specs.CallRows.{tableOf, CalledCode, localRows, crossRows};
+use crate::code_ranges::in_range;
 use rules::Answer;
 use rules::Config;
 use rules::FlashWord;
 use rules::RamByte;
+use rules::Range;
 use rules::Refusal;
 use rules::State;
 
@@ -42,12 +44,12 @@ pub fn called_domain(config: Config, target: FlashWord) -> u8
 }
 
 // The rows of a local call, below those that every call has.
-fn local_answer(state: State, target: FlashWord) -> Answer
-    requires { ⌜ goodState state ≡ true ⌝ }
+fn local_answer(state: State, code: Range, target: FlashWord) -> Answer
+    requires { ⌜ (goodState state ≡ true) × (code ≡ rangeOf (state .config) (state .domain)) ⌝ }
     ensures { λ r. ⌜ r ≡ localRows state target ⌝ }
 {
     let config = state.config;
-    if !crate::code_ranges::in_code(state.config, state.domain, target) {
+    if !in_range(code, target) {
         return Answer::Refused(Refusal::TargetOutside);
     }
     if config.top.0 - state.safepointer.0 < frames::LOCAL_BYTES {
@@ -57,8 +59,8 @@ fn local_answer(state: State, target: FlashWord) -> Answer
 }
 
 // The rows of a cross-domain call.
-fn cross_answer(state: State, word: u16, target: FlashWord, pointer: RamByte) -> Answer
-    requires { ⌜ (goodState state ≡ true) × (state .config .jt .0 ≤ target .0) ⌝ }
+fn cross_answer(state: State, called: Range, word: u16, target: FlashWord, pointer: RamByte) -> Answer
+    requires { ⌜ (goodState state ≡ true) × (state .config .jt .0 ≤ target .0) × CalledCode state target called ⌝ }
     ensures { λ r. ⌜ r ≡ crossRows state (tableOf word) target pointer ⌝ }
 {
     let config = state.config;
@@ -69,7 +71,7 @@ fn cross_answer(state: State, word: u16, target: FlashWord, pointer: RamByte) ->
     if entry.0 == 0 {
         return Answer::Refused(Refusal::BadEntry);
     }
-    if !crate::code_ranges::in_code(state.config, called_domain(config, target), entry) {
+    if !in_range(called, entry) {
         return Answer::Refused(Refusal::BadEntry);
     }
     if pointer.0 < config.top.0 - 1 {
@@ -87,20 +89,22 @@ fn cross_answer(state: State, word: u16, target: FlashWord, pointer: RamByte) ->
 pub fn answer(
     state: State,
     ram: &[u8],
+    code: Range,
+    called: Range,
     word: u16,
     target: FlashWord,
     site: FlashWord,
     pointer: RamByte,
 ) -> Answer
-    requires { ⌜ (length (now ram) ≡ ramBytes) × (goodState state ≡ true) ⌝ }
+    requires { ⌜ (length (now ram) ≡ ramBytes) × (goodState state ≡ true) × (code ≡ rangeOf (state .config) (state .domain)) × CalledCode state target called ⌝ }
     ensures { λ r. ⌜ r ≡ callAnswer state (now (ram .entry)) (tableOf word) target site pointer ⌝ }
 {
     let config = state.config;
-    if !crate::code_ranges::in_code(state.config, state.domain, site) {
+    if !in_range(code, site) {
         return Answer::Refused(Refusal::SiteOutside);
     }
     if target.0 < config.jt.0 {
-        return local_answer(state, target);
+        return local_answer(state, code, target);
     }
-    cross_answer(state, word, target, pointer)
+    cross_answer(state, called, word, target, pointer)
 }

@@ -1,16 +1,12 @@
-// Section 3: whether a word of flash lies in a domain's code.
+// Section 3: whether a word of flash lies in a code range.
 ghost use mathlib.Core.Path.{_≡_};
-ghost use Prim.Native.Nat.{_≤_};
-ghost use Rattle.rules.specs.Memory.{trusted};
-ghost use Rattle.rules.specs.Code.{rangeOf, inRange};
-use rules::Config;
+ghost use Rattle.rules.specs.Code.{inRange};
 use rules::FlashWord;
+use rules::Range;
 
-pub fn in_code(config: Config, domain: u8, word: FlashWord) -> bool
-    requires { ⌜ domain ≤ trusted ⌝ }
-    ensures { λ r. ⌜ r ≡ inRange (rangeOf config domain) word ⌝ }
+pub fn in_range(range: Range, word: FlashWord) -> bool
+    ensures { λ r. ⌜ r ≡ inRange range word ⌝ }
 {
-    let range = config.ranges[domain as usize];
     if word.0 < range.start.0 {
         return false;
     }

@@ -2,22 +2,25 @@
 // runtime and the layer for C make those two tests, each on the state as it comes to them.
 ghost use mathlib.Core.Path.{_≡_};
 ghost use mathlib.Core.Bool.{true};
+ghost use Prim.Native.Nat.{_<_};
 ghost use lib.ListN.{length};
 ghost use Rattle.rules.specs.Memory.{ramBytes};
 ghost use Rattle.rules.specs.State.{goodState};
+ghost use Rattle.rules.specs.Code.{rangeOf};
 ghost use Rattle.rules.specs.Answers.{Gives};
 ghost use Rattle.rules.specs.Store.{storeOf};
 ghost use Rattle.rules.specs.Call.{callOf};
-ghost use Rattle.rules.specs.Return.{returnOf};
+ghost use Rattle.rules.specs.Return.{topFrame, returnOf};
 ghost use Rattle.rules.specs.Malloc.{mallocOf};
 ghost use Rattle.rules.specs.Free.{freeOf, changeOf};
-ghost use Rattle.operations.specs.CallRows.{tableOf};
+ghost use Rattle.operations.specs.CallRows.{tableOf, CalledCode};
+ghost use Rattle.operations.specs.ReturnRows.{callerOf};
 
 pub mod call_check;
 mod code_ranges;
 mod malloc_check;
 mod places;
-mod return_check;
+pub mod return_check;
 mod segment_check;
 mod store_check;
 
@@ -27,6 +30,7 @@ use rules::FlashWord;
 use rules::Frame;
 use rules::Outcome;
 use rules::RamByte;
+use rules::Range;
 use rules::Refusal;
 use rules::State;
 
@@ -44,20 +48,23 @@ pub fn store(state: State, ram: &mut [u8], address: RamByte, byte: u8) -> Outcom
     }
 }
 
-// A call with the word of its target already read from the table; a local call, or one past the tables, looks at none. A frame is written
-// to the safe stack area, which is lent to the frame writer, and to no other byte.
+// A call is handed what it looks at: the code ranges of the current domain and of the called one, and the word of its target; a local call,
+// or one past the tables, looks at the first alone. A frame is written to the safe stack area, which is lent to the frame writer, and to no
+// other byte.
 pub fn call(
     state: State,
     ram: &mut [u8],
+    code: Range,
+    called: Range,
     word: u16,
     target: FlashWord,
     site: FlashWord,
     pointer: RamByte,
 ) -> Outcome
-    requires { ⌜ (length (now ram) ≡ ramBytes) × (goodState state ≡ true) ⌝ }
+    requires { ⌜ (length (now ram) ≡ ramBytes) × (goodState state ≡ true) × (code ≡ rangeOf (state .config) (state .domain)) × CalledCode state target called ⌝ }
     ensures { λ r. ⌜ Gives r (now (ram .exit)) (callOf state (now (ram .entry)) (tableOf word) target site pointer) ⌝ }
 {
-    let answer = call_check::answer(state, ram, word, target, site, pointer);
+    let answer = call_check::answer(state, ram, code, called, word, target, site, pointer);
     match answer {
         Answer::Done(_) => {
             let config = state.config;
@@ -88,19 +95,14 @@ pub fn call(
     }
 }
 
-pub fn ret(state: State, ram: &mut [u8]) -> Outcome
-    requires { ⌜ (length (now ram) ≡ ramBytes) × (goodState state ≡ true) ⌝ }
-    ensures { λ r. ⌜ Gives r (now (ram .exit)) (returnOf state (now (ram .entry))) ⌝ }
+// A return is handed the frame below the safe pointer and the code range of the domain that it returns to. The frame's bytes stay in RAM.
+pub fn ret(state: State, ram: &[u8], frame: Frame, code: Range) -> Outcome
+    requires { ⌜ (length (now ram) ≡ ramBytes) × (goodState state ≡ true) × (state .config .safe .0 < state .safepointer .0) × (frame ≡ topFrame state (now ram)) × (code ≡ rangeOf (state .config) (callerOf state frame)) ⌝ }
+    ensures { λ r. ⌜ Gives r (now (ram .entry)) (returnOf state (now (ram .entry))) ⌝ }
 {
-    if state.safepointer.0 == state.config.safe.0 {
-        return Outcome {
-            answer: Answer::Refused(Refusal::NoFrame),
-            state,
-        };
-    }
-    let frame = return_check::judged_frame(state, ram);
+    let found = return_check::judged(state, frame, code);
     let mut next = state;
-    match frame {
+    match found {
         Frame::Local(site) => {
             next.safepointer = address::below(state.safepointer, frames::LOCAL_BYTES);
             let answer = Answer::Done(site.0);
