@@ -1,7 +1,7 @@
 -- Return: whether there is a frame, the frame by its tag and its damage, and what is handed back.
 -- Assumes nothing.
 use Prim.Native.Nat.{ℕ, _+_, _-_, _<_, _≤_}
-use mathlib.Core.Path.{_≡_, refl}
+use mathlib.Core.Path.{_≡_, refl, sym}
 use mathlib.Core.Bool.{Bool, true, false, cond}
 use mathlib.Core.List.{List}
 use native.Mathlib.Omega.{arith}
@@ -26,7 +26,7 @@ use Rattle.rules.specs.Call.{localTag}
 use Rattle.rules.specs.Return.{readFrame, topFrame, damaged, siteOf, returnAnswer, returned, returnOf}
 use Rattle.laws.proofs.Good.{goodState-facts}
 use Rattle.laws.proofs.Parts.{take-part}
-use Rattle.operations.specs.ReturnRows.{judged}
+use Rattle.operations.specs.ReturnRows.{callerOf, judged}
 use Rattle.operations.proofs.SafeStack.{Area, lent}
 
 -- ---- whether there is a frame
@@ -86,6 +86,12 @@ cross-length used w b d h =
     let tag : ℕ = getD used (length used - 1) 0 in
     let (l, m, e) = is-cross (eqb tag localTag) (ltb (length used) 3) (leb tag trusted) (ltb (length used) 5) _ _ _ _ _ _ _ h in
     (ltb-false (length used) 5 m, rw e at (leb-true tag trusted l))
+
+-- a frame returns to a domain
+pub caller≤trusted : (s : State) (ram : List ℕ) → goodState s ≡ true → (f : Frame) → f ≡ topFrame s ram → callerOf s f ≤ trusted
+caller≤trusted s ram good (Local w) e = goodState-facts s good .domain≤trusted
+caller≤trusted s ram good (Cross w b d) e = cross-length _ w b d (sym e) .1
+caller≤trusted s ram good Damage e = goodState-facts s good .domain≤trusted
 
 -- ---- the frame of a good state
 

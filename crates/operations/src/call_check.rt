@@ -1,10 +1,10 @@
 // Section 5, call: which answer it gets.
 ghost use mathlib.Core.Path.{_≡_};
 ghost use mathlib.Core.Bool.{true};
-ghost use Prim.Native.Nat.{_-_, _≤_, _<_};
+ghost use Prim.Native.Nat.{_-_, _/_, _≤_, _<_};
 ghost use lib.ListN.{length};
 ghost use Rattle.rules.specs.Memory.{ramBytes};
-ghost use Rattle.rules.specs.Code.{tableWords, rangeOf, tableWord, calledDomain};
+ghost use Rattle.rules.specs.Code.{tableWords, domainWords, rangeOf, tableWord, calledDomain};
 ghost use Rattle.rules.specs.State.{goodState};
 ghost use Rattle.rules.specs.Call.{callAnswer};
 ghost use Rattle.operations.specs.CallRows.{tableOf, CalledCode, localRows, crossRows};
@@ -35,12 +35,20 @@ pub fn table_word(jt: FlashWord, target: FlashWord) -> u16
     word
 }
 
+// The domain of a table word.
+pub fn domain_of(word: u16) -> u8
+    requires { ⌜ word < tableWords ⌝ }
+    ensures { λ r. ⌜ r ≡ word / domainWords ⌝ }
+{
+    (word / DOMAIN_WORDS) as u8
+}
+
 // The domain that a cross-domain call calls.
 pub fn called_domain(config: Config, target: FlashWord) -> u8
     requires { ⌜ (config .jt .0 ≤ target .0) × (tableWord config target < tableWords) ⌝ }
     ensures { λ r. ⌜ r ≡ calledDomain config target ⌝ }
 {
-    ((target.0 - config.jt.0) / DOMAIN_WORDS) as u8
+    domain_of(target.0 - config.jt.0)
 }
 
 // The rows of a local call, below those that every call has.

@@ -12,7 +12,10 @@ ghost use Rattle.rules.specs.Free.{freeOf, changeOf};
 pub mod numbers;
 mod states;
 
+use operations::call_check::domain_of;
 use operations::call_check::table_word;
+use operations::return_check::caller;
+use operations::return_check::top_frame;
 use rules::Answer;
 use rules::Config;
 use rules::FlashWord;
@@ -99,8 +102,12 @@ pub fn call(
             state,
         };
     };
-    let word = table[table_word(state.config.jt, target) as usize];
-    operations::call(state, ram, word, target, site, pointer)
+    let config = state.config;
+    let at = table_word(config.jt, target);
+    let code = config.ranges[state.domain as usize];
+    let called = config.ranges[domain_of(at) as usize];
+    let word = table[at as usize];
+    operations::call(state, ram, code, called, word, target, site, pointer)
 }
 
 pub fn ret(state: State, ram: &mut [u8]) -> Outcome
@@ -113,7 +120,16 @@ pub fn ret(state: State, ram: &mut [u8]) -> Outcome
             state,
         };
     };
-    operations::ret(state, ram)
+    let config = state.config;
+    if state.safepointer.0 == config.safe.0 {
+        return Outcome {
+            answer: Answer::Refused(Refusal::NoFrame),
+            state,
+        };
+    }
+    let frame = top_frame(state, ram);
+    let code = config.ranges[caller(state, frame) as usize];
+    operations::ret(state, ram, frame, code)
 }
 
 pub fn malloc(state: State, ram: &mut [u8], size: u16) -> Outcome
