@@ -2,7 +2,7 @@
 -- Assumes nothing.
 use Prim.Native.Nat.{ℕ, suc, _+_, _-_, _≤_, _<_}
 use mathlib.Core.Path.{_≡_, sym, _∙_, ap}
-use mathlib.Core.Bool.{Bool, true, false, _&&_, and-true, and-false, and-assoc}
+use mathlib.Core.Bool.{Bool, true, false, _&&_, and-true, and-false, and-assoc, and-comm}
 use mathlib.Core.List.{List}
 use native.Mathlib.Omega.{arith}
 use native.Mathlib.Numerals.{add-one}
@@ -17,7 +17,7 @@ use Rattle.rules.specs.declared.Config.{Config}
 use Rattle.rules.specs.declared.State.{State}
 use Rattle.rules.specs.Memory.{ramBytes, trusted, blockOf, blocks, mapBytesFor, mapBytes}
 use Rattle.rules.specs.Code.{emptyRange, ordered, apart, apartFrom, allApart}
-use Rattle.rules.specs.State.{multiples, botBelowTop, mapBelowHeap, heapBelowSafe, safeBelowTop, topInRam, jtInFlash, rangesOrdered, rangesApart, goodConfig, goodState}
+use Rattle.rules.specs.State.{multiples, botBelowTop, mapBelowHeap, heapBelowSafe, safeBelowTop, topInRam, jtInFlash, rangesOrdered, rangesApart, goodConfig, domainGood, boundGood, safepointerGood, goodState}
 use Rattle.rules.specs.Malloc.{block}
 use Rattle.laws.proofs.Map.{mapBytesFor-le}
 use Rattle.laws.proofs.Blocks.{block-small}
@@ -27,22 +27,32 @@ use Rattle.laws.proofs.Tests.{left-false, right-false, left-true}
 abbrev pub inOrder : Config → Bool
 inOrder c = botBelowTop c && mapBelowHeap c && heapBelowSafe c && safeBelowTop c && topInRam c
 
+-- the addresses and jt
+abbrev pub boundsGood : Config → Bool
+boundsGood c = multiples c && botBelowTop c && mapBelowHeap c && heapBelowSafe c && safeBelowTop c && topInRam c && jtInFlash c
+
 module _ (c : Config) where
-  by-groups : goodConfig c ≡ (multiples c && (inOrder c && (jtInFlash c && (rangesOrdered c && rangesApart c))))
-  unfolding goodConfig
+  by-groups : boundsGood c ≡ (multiples c && (inOrder c && jtInFlash c))
   by-groups = simp and-assoc
 
-  pub not-multiples : multiples c ≡ false → false ≡ goodConfig c
+  pub not-multiples : multiples c ≡ false → false ≡ boundsGood c
   not-multiples h = sym (by-groups ∙ left-false (multiples c) _ h)
 
-  pub not-in-order : inOrder c ≡ false → false ≡ goodConfig c
+  pub not-in-order : inOrder c ≡ false → false ≡ boundsGood c
   not-in-order h = sym (by-groups ∙ right-false (multiples c) _ (left-false (inOrder c) _ h))
 
-  pub not-in-flash : jtInFlash c ≡ false → false ≡ goodConfig c
-  not-in-flash h = sym (by-groups ∙ right-false (multiples c) _ (right-false (inOrder c) _ (left-false (jtInFlash c) _ h)))
+  pub jt-decides : multiples c ≡ true → inOrder c ≡ true → jtInFlash c ≡ boundsGood c
+  jt-decides m i = sym (by-groups ∙ left-true (multiples c) _ m ∙ left-true (inOrder c) _ i)
 
-  pub ranges-decide : multiples c ≡ true → inOrder c ≡ true → jtInFlash c ≡ true → (rangesOrdered c && rangesApart c) ≡ goodConfig c
-  ranges-decide m i j = sym (by-groups ∙ left-true (multiples c) _ m ∙ left-true (inOrder c) _ i ∙ left-true (jtInFlash c) _ j)
+  config-parts : goodConfig c ≡ (boundsGood c && (rangesOrdered c && rangesApart c))
+  unfolding goodConfig
+  config-parts = and-assoc (boundsGood c) (rangesOrdered c) (rangesApart c)
+
+  pub not-bounds : boundsGood c ≡ false → false ≡ goodConfig c
+  not-bounds h = sym (config-parts ∙ left-false (boundsGood c) _ h)
+
+  pub ranges-decide : boundsGood c ≡ true → (rangesOrdered c && rangesApart c) ≡ goodConfig c
+  ranges-decide h = sym (config-parts ∙ left-true (boundsGood c) _ h)
 
 -- what the code takes for the map's length is that
 pub map-length : (c : Config) {b : Block} {m : ℕ} → b ≡ block (blockOf (c .bot) (c .top)) → m ≡ mapBytesFor (b .0) → m ≡ mapBytes c
@@ -59,34 +69,38 @@ pub end-decides : (c : Config) → c .bot .0 < c .top .0 → c .heap .0 ≤ c .s
     → leb (c .bot .0 + mapBytes c) (c .heap .0) ≡ inOrder c
 end-decides c bt hs st tr = simp (lt-ltb _ _ bt, le-leb _ _ hs, le-leb _ _ st, le-leb _ _ tr, and-true)
 
+-- domain, bound and safe pointer
+abbrev pub runGood : State → Bool
+runGood s = domainGood s && boundGood s && safepointerGood s
+
 -- a state, by its fields
 module _ (s : State) where
-  pub domain-above : trusted < s .domain → false ≡ goodState s
-  unfolding goodState
-  domain-above h = simp (lt-leb _ _ h, and-false)
+  pub domain-above : trusted < s .domain → false ≡ runGood s
+  domain-above h = simp (lt-leb _ _ h)
 
-  pub bound-above : ramBytes ≤ s .bound .0 → false ≡ goodState s
-  unfolding goodState
+  pub bound-above : ramBytes ≤ s .bound .0 → false ≡ runGood s
   bound-above h = simp (le-ltb _ _ h, and-false)
 
-  pub bound-below : s .bound .0 + 1 < s .config .top .0 → false ≡ goodState s
-  unfolding goodState
+  pub bound-below : s .bound .0 + 1 < s .config .top .0 → false ≡ runGood s
   bound-below h = simp (lt-leb (s .config .top .0 - 1) (s .bound .0) (omega arith), and-false)
 
-  pub pointer-below : s .safepointer .0 < s .config .safe .0 → false ≡ goodState s
-  unfolding goodState
+  pub pointer-below : s .safepointer .0 < s .config .safe .0 → false ≡ runGood s
   pointer-below h = simp (lt-leb _ _ h, and-false)
 
-  pub pointer-above : s .config .top .0 < s .safepointer .0 → false ≡ goodState s
-  unfolding goodState
-  pointer-above h = simp (lt-leb _ _ h, and-false)
+  pub pointer-decides : s .domain ≤ trusted → s .bound .0 < ramBytes → s .config .top .0 ≤ s .bound .0 + 1
+      → s .config .safe .0 ≤ s .safepointer .0 → leb (s .safepointer .0) (s .config .top .0) ≡ runGood s
+  pointer-decides d b t l =
+      simp (le-leb _ _ d, lt-ltb _ _ b, le-leb (s .config .top .0 - 1) (s .bound .0) (omega arith), le-leb _ _ l)
 
-  pub config-decides : s .domain ≤ trusted → s .bound .0 < ramBytes → s .config .top .0 ≤ s .bound .0 + 1
-      → s .config .safe .0 ≤ s .safepointer .0 → s .safepointer .0 ≤ s .config .top .0 → goodConfig (s .config) ≡ goodState s
+  state-parts : goodState s ≡ (runGood s && goodConfig (s .config))
   unfolding goodState
-  config-decides d b t l h =
-      simp
-      (le-leb _ _ d, lt-ltb _ _ b, le-leb (s .config .top .0 - 1) (s .bound .0) (omega arith), le-leb _ _ l, le-leb _ _ h, and-true)
+  state-parts = (simp and-assoc) ∙ and-comm (goodConfig (s .config)) (runGood s)
+
+  pub not-run : runGood s ≡ false → false ≡ goodState s
+  not-run h = sym (state-parts ∙ left-false (runGood s) _ h)
+
+  pub config-decides : runGood s ≡ true → goodConfig (s .config) ≡ goodState s
+  config-decides h = sym (state-parts ∙ left-true (runGood s) _ h)
 
 -- where no earlier way of being apart holds, the last decides
 pub last-decides : (r q : Range) → (r .start .0 ≡ r .end .0 → ⊥) → (q .start .0 ≡ q .end .0 → ⊥) → q .start .0 < r .end .0

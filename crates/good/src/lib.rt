@@ -1,6 +1,7 @@
 // Whether a configuration and a state are good: sections 2 to 4, a function for each group of rules.
 ghost use mathlib.Core.Path.{_≡_};
-ghost use Rattle.rules.specs.State.{goodConfig, goodState};
+ghost use mathlib.Core.Bool.{_&&_};
+ghost use Rattle.rules.specs.State.{multiples, botBelowTop, mapBelowHeap, heapBelowSafe, safeBelowTop, topInRam, jtInFlash, goodConfig, domainGood, boundGood, safepointerGood, goodState};
 
 mod bounds;
 mod ranges;
@@ -14,8 +15,9 @@ const TRUSTED: u8 = 7;
 // The jump tables end where flash does.
 const LAST_JT: u16 = 64512;
 
-pub fn good_config(config: Config) -> bool
-    ensures { λ r. ⌜ r ≡ goodConfig config ⌝ }
+// Section 2's addresses and section 3's jt.
+pub fn good_bounds(config: Config) -> bool
+    ensures { λ r. ⌜ r ≡ (multiples config && botBelowTop config && mapBelowHeap config && heapBelowSafe config && safeBelowTop config && topInRam config && jtInFlash config) ⌝ }
 {
     if !bounds::multiples(config) {
         return false;
@@ -23,15 +25,21 @@ pub fn good_config(config: Config) -> bool
     if !bounds::in_order(config) {
         return false;
     }
-    if LAST_JT < config.jt.0 {
+    config.jt.0 <= LAST_JT
+}
+
+pub fn good_config(config: Config) -> bool
+    ensures { λ r. ⌜ r ≡ goodConfig config ⌝ }
+{
+    if !good_bounds(config) {
         return false;
     }
     ranges::all_good(config)
 }
 
-// The cheap tests stand first; the bound is below RAM's end when one is added to it.
-pub fn good_state(state: State) -> bool
-    ensures { λ r. ⌜ r ≡ goodState state ⌝ }
+// Section 4: domain, bound and safe pointer; the bound is below RAM's end when one is added to it.
+pub fn good_run(state: State) -> bool
+    ensures { λ r. ⌜ r ≡ (domainGood state && boundGood state && safepointerGood state) ⌝ }
 {
     if TRUSTED < state.domain {
         return false;
@@ -45,7 +53,14 @@ pub fn good_state(state: State) -> bool
     if state.safepointer.0 < state.config.safe.0 {
         return false;
     }
-    if state.config.top.0 < state.safepointer.0 {
+    state.safepointer.0 <= state.config.top.0
+}
+
+// The cheap tests stand first.
+pub fn good_state(state: State) -> bool
+    ensures { λ r. ⌜ r ≡ goodState state ⌝ }
+{
+    if !good_run(state) {
         return false;
     }
     good_config(state.config)

@@ -9,12 +9,15 @@ use rules::Refusal;
 mod answer;
 mod operands;
 mod slot;
-mod table;
 
 use answer::packed;
 use answer::refused;
 use operands::flash_word;
 use operands::ram_byte;
+use operations::call_check::domain_of;
+use operations::call_check::table_word;
+use operations::return_check::caller;
+use operations::return_check::top_frame;
 
 const RAM_BYTES: usize = 4096;
 
@@ -51,7 +54,10 @@ pub extern "C" fn hmt_set_up(ram: &mut [u8], slot: &mut [u8]) -> u32
     if wrong_size(ram, slot) {
         return refused(Refusal::WrongSize);
     }
-    let outcome = runtime::set_up(slot::config_in(slot), ram);
+    if !slot::good_config(slot) {
+        return refused(Refusal::BrokenRule);
+    }
+    let outcome = operations::set_up(slot::config_in(slot), ram);
     slot::set_up(slot, outcome)
 }
 
@@ -63,7 +69,10 @@ pub extern "C" fn hmt_store(ram: &mut [u8], slot: &mut [u8], address: u16, byte:
     if refusal != 0 {
         return refusal;
     }
-    let outcome = runtime::store(slot::state_in(slot), ram, ram_byte(address), byte);
+    if !slot::good_state(slot) {
+        return refused(Refusal::BadState);
+    }
+    let outcome = operations::store(slot::state_in(slot), ram, ram_byte(address), byte);
     let given = outcome.answer;
     packed(given)
 }
@@ -86,12 +95,19 @@ pub extern "C" fn hmt_call(
     if refusal != 0 {
         return refusal;
     }
+    if !slot::good_state(slot) {
+        return refused(Refusal::BadState);
+    }
     let state = slot::state_in(slot);
-    let config = state.config;
-    let word = table::entry_in(table, config.jt, flash_word(target));
-    let outcome = runtime::call_with(
+    let at = table_word(state.config.jt, flash_word(target));
+    let code = slot::code_at(slot, state.domain);
+    let called = slot::code_at(slot, domain_of(at));
+    let word = slot::word_at(table, 2 * (at as usize));
+    let outcome = operations::call(
         state,
         ram,
+        code,
+        called,
         word,
         flash_word(target),
         flash_word(site),
@@ -108,7 +124,16 @@ pub extern "C" fn hmt_return(ram: &mut [u8], slot: &mut [u8]) -> u32
     if refusal != 0 {
         return refusal;
     }
-    let outcome = runtime::ret(slot::state_in(slot), ram);
+    if !slot::good_state(slot) {
+        return refused(Refusal::BadState);
+    }
+    let state = slot::state_in(slot);
+    if state.safepointer.0 == state.config.safe.0 {
+        return refused(Refusal::NoFrame);
+    }
+    let frame = top_frame(state, ram);
+    let code = slot::code_at(slot, caller(state, frame));
+    let outcome = operations::ret(state, ram, frame, code);
     slot::change(slot, outcome)
 }
 
@@ -120,7 +145,10 @@ pub extern "C" fn hmt_malloc(ram: &mut [u8], slot: &mut [u8], size: u16) -> u32
     if refusal != 0 {
         return refusal;
     }
-    let outcome = runtime::malloc(slot::state_in(slot), ram, size);
+    if !slot::good_state(slot) {
+        return refused(Refusal::BadState);
+    }
+    let outcome = operations::malloc(slot::state_in(slot), ram, size);
     let given = outcome.answer;
     packed(given)
 }
@@ -133,7 +161,10 @@ pub extern "C" fn hmt_free(ram: &mut [u8], slot: &mut [u8], address: u16) -> u32
     if refusal != 0 {
         return refusal;
     }
-    let outcome = runtime::free(slot::state_in(slot), ram, ram_byte(address));
+    if !slot::good_state(slot) {
+        return refused(Refusal::BadState);
+    }
+    let outcome = operations::free(slot::state_in(slot), ram, ram_byte(address));
     let given = outcome.answer;
     packed(given)
 }
@@ -146,7 +177,10 @@ pub extern "C" fn hmt_change(ram: &mut [u8], slot: &mut [u8], address: u16, doma
     if refusal != 0 {
         return refusal;
     }
-    let outcome = runtime::change(slot::state_in(slot), ram, ram_byte(address), domain);
+    if !slot::good_state(slot) {
+        return refused(Refusal::BadState);
+    }
+    let outcome = operations::change(slot::state_in(slot), ram, ram_byte(address), domain);
     let given = outcome.answer;
     packed(given)
 }

@@ -1,11 +1,13 @@
 // The slot: the configuration and the state read from it, the fresh state and what a call or a return changes written to it.
 ghost use mathlib.Core.Path.{_≡_};
+ghost use mathlib.Core.Bool.{true, _&&_};
 ghost use mathlib.Core.List.{[], _∷_, _++_};
-ghost use Prim.Native.Nat.{_+_, _<_};
+ghost use Prim.Native.Nat.{_+_, _<_, _≤_};
 ghost use lib.ListN.{length};
 ghost use lib.Seq.{sets};
-ghost use Rattle.rules.specs.Code.{flashWord};
-ghost use Rattle.rules.specs.State.{ramByte};
+ghost use Rattle.rules.specs.Memory.{trusted};
+ghost use Rattle.rules.specs.Code.{flashWord, rangeOf};
+ghost use Rattle.rules.specs.State.{ramByte, rangesOrdered, rangesApart, goodConfig, goodState};
 ghost use Rattle.rules.specs.Return.{wordAt};
 ghost use Rattle.rules.specs.Slot.{slotBytes, boundIn, configIn, stateIn, packed};
 ghost use Rattle.laws.proofs.Slot.{runBytes};
@@ -89,6 +91,74 @@ pub fn state_in(slot: &[u8]) -> State
         bound: bound,
         safepointer: safepointer,
     }
+}
+
+pub fn good_config(slot: &[u8]) -> bool
+    requires { ⌜ length (now slot) ≡ slotBytes ⌝ }
+    ensures { λ r. ⌜ r ≡ goodConfig (configIn (now (slot .entry))) ⌝ }
+{
+    good::good_config(config_in(slot))
+}
+
+// Code as it usually lies (see good::ranges::all_good), seen in the slot itself: modules in rising order, the trusted code before or after
+// them.
+fn rising(slot: &[u8]) -> bool
+    requires { ⌜ length (now slot) ≡ slotBytes ⌝ }
+    ensures { λ r. ⌜ (r ≡ true → (rangesOrdered (configIn (now (slot .entry))) && rangesApart (configIn (now (slot .entry)))) ≡ true) ⌝ }
+{
+    let first = word_at(slot, 10);
+    let mut last = first;
+    let mut at: usize = 10;
+    while at < 38 {
+        let start = word_at(slot, at);
+        let end = word_at(slot, at + 2);
+        if last <= start {
+            if end < start {
+                return false;
+            }
+            last = end;
+        } else if start != end {
+            return false;
+        }
+        at += 4;
+    }
+    let start = word_at(slot, 38);
+    let end = word_at(slot, 40);
+    if end < start {
+        return false;
+    }
+    if last <= start {
+        return end <= word_at(slot, 8);
+    }
+    if first < end {
+        return false;
+    }
+    last <= word_at(slot, 8)
+}
+
+// Whether the state in the slot is good, with as little of it unpacked as can be: only code in another order costs the test of all pairs.
+pub fn good_state(slot: &[u8]) -> bool
+    requires { ⌜ length (now slot) ≡ slotBytes ⌝ }
+    ensures { λ r. ⌜ r ≡ goodState (stateIn (now (slot .entry))) ⌝ }
+{
+    if !good::good_run(state_in(slot)) {
+        return false;
+    }
+    if !good::good_bounds(config_in(slot)) {
+        return false;
+    }
+    if rising(slot) {
+        return true;
+    }
+    good_config(slot)
+}
+
+// The code range of a domain.
+pub fn code_at(slot: &[u8], domain: u8) -> Range
+    requires { ⌜ (length (now slot) ≡ slotBytes) × (domain ≤ trusted) ⌝ }
+    ensures { λ r. ⌜ r ≡ rangeOf (configIn (now (slot .entry))) domain ⌝ }
+{
+    range_at(slot, 10 + 4 * (domain as usize))
 }
 
 // The bound, the safe pointer and the domain: five bytes, and no other.

@@ -14,7 +14,7 @@ use Rattle.rules.specs.declared.FlashWord.{FlashWord}
 use Rattle.rules.specs.declared.Range.{Range}
 use Rattle.rules.specs.declared.Config.{Config}
 use Rattle.rules.specs.declared.State.{State}
-use Rattle.rules.specs.Code.{domains, ordered}
+use Rattle.rules.specs.Code.{domains, flashWord, emptyRange, ordered}
 use Rattle.rules.specs.State.{goodState}
 use Rattle.rules.specs.Call.{low, high}
 use Rattle.rules.specs.Return.{wordAt}
@@ -50,6 +50,17 @@ pub length-rangesAt : (bytes : List ℕ) (at n : ℕ) → length (rangesAt bytes
 unfolding rangesAt
 length-rangesAt bytes at zero = refl
 length-rangesAt bytes at (suc n) = ap suc (length-rangesAt bytes (at + 4) n)
+
+-- the code range of a domain stands in the slot as two words
+pub range-at : (bytes : List ℕ) (at n d : ℕ) → d < n
+    → getD (rangesAt bytes at n) d emptyRange
+    ≡ record { start = flashWord (wordAt bytes (at + 4 * d)); end = flashWord (wordAt bytes (at + 4 * d + 2)) }
+unfolding rangesAt
+range-at bytes at zero d h = absurd (omega arith)
+range-at bytes at (suc n) zero h = let e : at + 4 * 0 ≡ at = omega arith in rw e
+range-at bytes at (suc n) (suc d) h =
+    let e : at + 4 * suc d ≡ at + 4 + 4 * d = omega arith in
+    rw e (range-at bytes (at + 4) n d (omega arith))
 
 length-configBytes : (c : Config) → length (c .ranges) ≡ domains → length (configBytes c) ≡ boundIn
 length-configBytes c eight = omega (arith, length-rangesBytes (c .ranges))

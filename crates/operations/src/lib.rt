@@ -5,9 +5,10 @@ ghost use mathlib.Core.Bool.{true};
 ghost use Prim.Native.Nat.{_<_};
 ghost use lib.ListN.{length};
 ghost use Rattle.rules.specs.Memory.{ramBytes};
-ghost use Rattle.rules.specs.State.{goodState};
+ghost use Rattle.rules.specs.State.{goodConfig, goodState};
 ghost use Rattle.rules.specs.Code.{rangeOf};
 ghost use Rattle.rules.specs.Answers.{Gives};
+ghost use Rattle.rules.specs.SetUp.{setUpOf};
 ghost use Rattle.rules.specs.Store.{storeOf};
 ghost use Rattle.rules.specs.Call.{callOf};
 ghost use Rattle.rules.specs.Return.{topFrame, returnOf};
@@ -22,10 +23,12 @@ mod malloc_check;
 mod places;
 pub mod return_check;
 mod segment_check;
+mod states;
 mod store_check;
 
 use places::Place;
 use rules::Answer;
+use rules::Config;
 use rules::FlashWord;
 use rules::Frame;
 use rules::Outcome;
@@ -34,6 +37,19 @@ use rules::Range;
 use rules::Refusal;
 use rules::State;
 
+// Section 2: set-up with a configuration that is good.
+pub fn set_up(config: Config, ram: &mut [u8]) -> Outcome
+    requires { ⌜ (length (now ram) ≡ ramBytes) × (goodConfig config ≡ true) ⌝ }
+    ensures { λ r. ⌜ Gives r (now (ram .exit)) (setUpOf config (now (ram .entry))) ⌝ }
+{
+    map::set_up_map(config, ram);
+    Outcome {
+        answer: Answer::Done(0),
+        state: states::fresh(config),
+    }
+}
+
+// Section 5: the six operations.
 pub fn store(state: State, ram: &mut [u8], address: RamByte, byte: u8) -> Outcome
     requires { ⌜ (length (now ram) ≡ ramBytes) × (goodState state ≡ true) ⌝ }
     ensures { λ r. ⌜ Gives r (now (ram .exit)) (storeOf state (now (ram .entry)) address byte) ⌝ }

@@ -45,11 +45,7 @@ pub fn set_up(config: Config, ram: &mut [u8]) -> Outcome
             state: states::zeros(),
         };
     }
-    map::set_up_map(config, ram);
-    Outcome {
-        answer: Answer::Done(0),
-        state: states::fresh(config),
-    }
+    operations::set_up(config, ram)
 }
 
 // The two rows that each operation's table begins with; done where neither holds.

@@ -1,21 +1,9 @@
-// The states that set-up hands back.
+// The state that a refused set-up hands back.
 ghost use mathlib.Core.Path.{_≡_};
-ghost use Rattle.rules.specs.State.{fresh, zeros};
+ghost use Rattle.rules.specs.State.{zeros};
 use rules::Config;
 use rules::Range;
 use rules::State;
-
-pub fn fresh(config: Config) -> State
-    ensures { λ r. ⌜ r ≡ fresh config ⌝ }
-{
-    let safepointer = config.safe;
-    State {
-        config,
-        domain: map::TRUSTED,
-        bound: address::last_byte(),
-        safepointer,
-    }
-}
 
 pub fn zeros() -> State
     ensures { λ r. ⌜ r ≡ zeros ⌝ }

@@ -21,18 +21,14 @@ returns-2 : tie.Need-returns-2
 returns-2 c =
     simp (eq-eqb _ _ (c .before .before .before .if1 .left), rw (c .before .before .good-config .ensures) at (c .before .if2 .taken)) (refl, c .zeros2 .ensures, refl)
 
-set-up-map-requires : tie.Need-set-up-map-requires
-set-up-map-requires c κs = (c .before .before .before .if1 .left, not-false _ (rw (c .before .before .good-config .ensures) at (c .before .if2 .left)))
-
-fresh-requires : tie.Need-fresh-requires
-fresh-requires c κs = search needs
+set-up-requires : tie.Need-set-up-requires
+set-up-requires c κs = (c .before .before .before .if1 .left, not-false _ (rw (c .before .before .good-config .ensures) at (c .before .if2 .left)))
 
 same-length : tie.Need-same-length
 same-length c = search needs
 
 returns-3 : tie.Need-returns-3
-returns-3 c =
-    simp (eq-eqb _ _ (c .before .before .before .before .before .before .before .if1 .left), rw (c .before .before .before .before .before .before .good-config .ensures) at (c .before .before .before .before .before .if2 .left)) (refl, c .fresh .ensures, c .before .before .before .set-up-map .ensures)
+returns-3 c = search needs
 
 pub set-up-spec : {M : Type 1} → statement M
 set-up-spec =
@@ -43,7 +39,6 @@ set-up-spec =
     good-config-requires
     zeros-requires-2
     returns-2
-    set-up-map-requires
-    fresh-requires
+    set-up-requires
     same-length
     returns-3)

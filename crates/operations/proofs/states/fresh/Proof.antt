@@ -1,6 +1,6 @@
 use borrow.Author.Needs.{needs}
-use Rattle.runtime.proofs.states.fresh.Statement.{statement}
-use Rattle.runtime.proofs.states.fresh.Tie as tie
+use Rattle.operations.proofs.states.fresh.Statement.{statement}
+use Rattle.operations.proofs.states.fresh.Tie as tie
 
 last-byte-requires : tie.Need-last-byte-requires
 last-byte-requires c κs = search needs
