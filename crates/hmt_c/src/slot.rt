@@ -100,8 +100,7 @@ pub fn good_config(slot: &[u8]) -> bool
     good::good_config(config_in(slot))
 }
 
-// Code as it usually lies (see good::ranges::all_good), seen in the slot itself: modules in rising order, the trusted code before or after
-// them.
+// Code as it usually lies (see good::ranges::all_good), seen in the slot itself: modules rising, the trusted code before or after them.
 fn rising(slot: &[u8]) -> bool
     requires { ⌜ length (now slot) ≡ slotBytes ⌝ }
     ensures { λ r. ⌜ (r ≡ true → (rangesOrdered (configIn (now (slot .entry))) && rangesApart (configIn (now (slot .entry)))) ≡ true) ⌝ }

@@ -5,6 +5,7 @@
 -- No axiom.
 use Prim.Native.Nat.{ℕ, _+_, _-_, _*_}
 use mathlib.Core.Path.{_≡_}
+use mathlib.Core.Bool.{_&&_}
 use mathlib.Core.List.{List, _∷_, _++_}
 use lib.ListN.{length, take, drop, replicate}
 use lib.Seq.{sets}
@@ -17,7 +18,7 @@ use Rattle.rules.specs.declared.Frame.{Frame}
 use Rattle.rules.specs.declared.Answer.{Answer}
 use Rattle.rules.specs.Memory.{ramBytes, startOf, blockOf, blocksFor, isMultiple, mapBytesFor, codeOf, setCode, setCodes, startCode, laterCode, freeCode, ownerOf, startsSegment}
 use Rattle.rules.specs.Code.{flashWord}
-use Rattle.rules.specs.State.{ramByte, goodConfig, goodState}
+use Rattle.rules.specs.State.{ramByte, multiples, botBelowTop, mapBelowHeap, heapBelowSafe, safeBelowTop, topInRam, jtInFlash, goodConfig, domainGood, boundGood, safepointerGood, goodState}
 use Rattle.rules.specs.Answers.{numberOf, valueOf, Given, Gives}
 use Rattle.rules.specs.SetUp.{setUpRam, setUpOf}
 use Rattle.rules.specs.Store.{storeOf}
@@ -94,7 +95,10 @@ pub record Uniqueness : Type 0 where
   pub push : (area : List ℕ) (used : ℕ) (frame : Frame) → Only (λ area′. area′ ≡ sets area used (frameBytes frame))
   pub pop : (area : List ℕ) (used : ℕ) → Only (λ r. r ≡ readFrame (take used area))
   -- crates/good
+  pub «good_bounds» : (config : Config)
+      → Only (λ r. r ≡ (multiples config && botBelowTop config && mapBelowHeap config && heapBelowSafe config && safeBelowTop config && topInRam config && jtInFlash config))
   pub «good_config» : (config : Config) → Only (λ r. r ≡ goodConfig config)
+  pub «good_run» : (state : State) → Only (λ r. r ≡ (domainGood state && boundGood state && safepointerGood state))
   pub «good_state» : (state : State) → Only (λ r. r ≡ goodState state)
   -- crates/map
   pub «code_of» : (bot : RamByte) (ram : List ℕ) (k : Block) → Only (λ r. r ≡ codeOf bot ram (k .0))

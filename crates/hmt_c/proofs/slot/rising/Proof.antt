@@ -1,4 +1,4 @@
--- `hmt_c::slot::rising` meets its contract: what is left from a place on rises, up to the last of n ranges. Assumes nothing.
+-- `hmt_c::slot::rising` meets its contract. The invariant: if the ranges from `at` on rise, all eight are good. Assumes nothing.
 use Prim.Native.Nat.{ℕ, suc, _+_, _*_, _-_, _%_, _≤_}
 use mathlib.Core.Path.{_≡_}
 use mathlib.Core.Bool.{true, _&&_, false≢true}
@@ -12,7 +12,7 @@ use Rattle.rules.specs.Code.{domains, flashWord}
 use Rattle.rules.specs.State.{rangesOrdered, rangesApart}
 use Rattle.rules.specs.Return.{wordAt}
 use Rattle.rules.specs.Script.{rangesAt}
-use Rattle.rules.specs.Slot.{rangesIn, boundIn, configIn}
+use Rattle.rules.specs.Slot.{boundIn, configIn}
 use Rattle.good.proofs.Rising.{Rises, after, before, next, empty, rises-good}
 use Rattle.hmt_c.proofs.slot.rising.Statement.{statement}
 use Rattle.hmt_c.proofs.slot.rising.Tie as tie
