@@ -4,12 +4,13 @@ use mathlib.Core.List.{List}
 use native.Mathlib.Omega.{arith}
 use denote.Ref.{now}
 use lib.ListN.{replicate}
-use Rattle.rules.specs.declared.RamByte.{RamByte}
 use Rattle.rules.specs.Memory.{blockOf, setCodes, freeCode}
 use Rattle.rules.specs.State.{ramByte}
 use Rattle.rules.specs.Free.{blocksAt, freeAnswer, freeOf}
-use Rattle.rules.specs.Slot.{stateIn}
+use Rattle.rules.specs.Slot.{stateIn, wrongSize}
+use Rattle.laws.proofs.Tests.{failed, passed}
 use Rattle.laws.proofs.ToC.{right-size, kept-to-c}
+use Rattle.hmt_c.proofs.NotGood.{not-good}
 use borrow.Author.Needs.{needs}
 use Rattle.hmt_c.proofs.hmt_free.Statement.{statement}
 use Rattle.hmt_c.proofs.hmt_free.Tie as tie
@@ -30,21 +31,15 @@ returns c =
     let ram : List ℕ = now (args .ram) in
     c .before .refusal-before .ensures .some (c .if1 .taken) (freeOf (stateIn slot) ram (ramByte (args .address)))
 
-state-in-requires : tie.Need-state-in-requires
-state-in-requires c κs =
+good-state-requires : tie.Need-good-state-requires
+good-state-requires c κs =
     let args = c .before .before .before .before .before .before .before .args in
     let slot : List ℕ = now (args .slot) in
     let ram : List ℕ = now (args .ram) in
     right-size slot ram (c .before .before .refusal-before .ensures .none (c .before .if1 .left) .sizes) .0
 
-ram-byte-requires : tie.Need-ram-byte-requires
-ram-byte-requires c κs = search needs
-
-free-requires : tie.Need-free-requires
-free-requires c κs = search needs
-
-packed-requires : tie.Need-packed-requires
-packed-requires c κs = search needs
+refused-requires : tie.Need-refused-requires
+refused-requires c κs = search needs
 
 same-length-3 : tie.Need-same-length-3
 same-length-3 c = search needs
@@ -54,13 +49,46 @@ same-length-4 c = search needs
 
 returns-2 : tie.Need-returns-2
 returns-2 c =
-    let args = c .before .before .before .before .before .before .before .before .before .before .before .before .before .before .args in
+    let args = c .before .before .before .before .before .before .before .before .before .before .args in
     let slot : List ℕ = now (args .slot) in
     let ram : List ℕ = now (args .ram) in
-    let a : RamByte = ramByte (args .address) in
-    let ready = c .before .before .before .before .before .before .before .before .before .refusal-before .ensures .none (c .before .before .before .before .before .before .before .before .if1 .left) in
-    kept-to-c slot ram (λ i. omega (arith, c .before .before .before .before .before .before .before .before .before .before .before .before .slice-known2 .given i)) ready (freeAnswer (stateIn slot) ram a) _
-    (setCodes (stateIn slot .config .bot) ram (blockOf (stateIn slot .config .bot) a) (replicate (blocksAt (stateIn slot) ram a) freeCode))
+    let ready = c .before .before .before .before .before .refusal-before .ensures .none (c .before .before .before .before .if1 .left) in
+    not-good slot ram ready (failed (c .before .before .good-state .ensures) (c .before .if2 .taken)) (wrongSize slot ram) (ready .sizes) _ (c .refused .ensures) _ _ _ _
+
+state-in-requires : tie.Need-state-in-requires
+state-in-requires c κs =
+    let args = c .before .before .before .before .before .before .before .before .before .before .args in
+    let slot : List ℕ = now (args .slot) in
+    let ram : List ℕ = now (args .ram) in
+    right-size slot ram (c .before .before .before .before .before .refusal-before .ensures .none (c .before .before .before .before .if1 .left) .sizes) .0
+
+ram-byte-requires : tie.Need-ram-byte-requires
+ram-byte-requires c κs = search needs
+
+free-requires : tie.Need-free-requires
+free-requires c κs =
+    let args = c .before .before .before .before .before .before .before .before .before .before .before .before .before .args in
+    let slot : List ℕ = now (args .slot) in
+    let ram : List ℕ = now (args .ram) in
+    (right-size slot ram (c .before .before .before .before .before .before .before .before .refusal-before .ensures .none (c .before .before .before .before .before .before .before .if1 .left) .sizes) .1, rw (c .before .before .state-in .ensures) (passed (c .before .before .before .before .before .good-state .ensures) (c .before .before .before .before .if2 .left)))
+
+packed-requires : tie.Need-packed-requires
+packed-requires c κs = search needs
+
+same-length-5 : tie.Need-same-length-5
+same-length-5 c = search needs
+
+same-length-6 : tie.Need-same-length-6
+same-length-6 c = search needs
+
+returns-3 : tie.Need-returns-3
+returns-3 c =
+    let args = c .before .before .before .before .before .before .before .before .before .before .before .before .before .before .before .before .before .args in
+    let slot : List ℕ = now (args .slot) in
+    let ram : List ℕ = now (args .ram) in
+    let ready = c .before .before .before .before .before .before .before .before .before .before .before .before .refusal-before .ensures .none (c .before .before .before .before .before .before .before .before .before .before .before .if1 .left) in
+    kept-to-c slot ram (λ i. omega (arith, c .before .before .before .before .before .before .before .before .before .before .before .before .before .before .before .slice-known2 .given i)) ready (freeAnswer (stateIn slot) ram (ramByte (args .address))) _
+    (setCodes (stateIn slot .config .bot) ram (blockOf (stateIn slot .config .bot) (ramByte (args .address))) (replicate (blocksAt (stateIn slot) ram (ramByte (args .address))) freeCode))
     (c .before .before .before .free .result) (c .packed .result) (rw (c .before .before .before .before .before .before .state-in .ensures, c .before .before .before .before .ram-byte .ensures) at (c .before .before .before .free .ensures)) (c .packed .ensures)
 
 pub hmt-free-spec : {M : Type 1} → statement M
@@ -71,10 +99,15 @@ hmt-free-spec =
     same-length
     same-length-2
     returns
+    good-state-requires
+    refused-requires
+    same-length-3
+    same-length-4
+    returns-2
     state-in-requires
     ram-byte-requires
     free-requires
     packed-requires
-    same-length-3
-    same-length-4
-    returns-2)
+    same-length-5
+    same-length-6
+    returns-3)
