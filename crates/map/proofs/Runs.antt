@@ -1,42 +1,83 @@
 -- The steps of the loops over a run of blocks: what is left of a list of codes decides what RAM becomes.
 -- Assumes nothing.
-use Prim.Native.Nat.{ℕ, suc, _+_, _-_, _≤_, _<_}
-use mathlib.Core.Path.{_≡_, sym, _∙_}
+use Prim.Native.Nat.{ℕ, zero, suc, _+_, _-_, _*_, _/_, _%_, _≤_, _<_}
+use mathlib.Core.Path.{_≡_, refl, sym, ap, _∙_}
 use mathlib.Core.Bool.{true, false}
-use mathlib.Core.List.{List, _∷_}
+use mathlib.Core.List.{List, [], _∷_, _++_}
 use native.Mathlib.Decide.{ℕ-discrete}
 use native.Mathlib.Omega.{arith}
 use mathlib.Core.Logic.{_≢_}
-use lib.ListN.{replicate}
+use lib.ListN.{length, getD, set, replicate, length-replicate, replicate-append-replicate}
+use lib.Seq.{getD-set-same, getD-set-other}
 use Rattle.rules.specs.declared.RamByte.{RamByte}
 use Rattle.rules.specs.declared.Config.{Config}
 use Rattle.rules.specs.declared.Found.the-variants.{At}
-use Rattle.rules.specs.Memory.{heapBlock, safeBlock, codeOf, setCode, setCodes, laterCode, freeCode, ownerOf, isFree}
-use Rattle.rules.specs.SetUp.{setUpCode, setUpCodes}
+use Rattle.rules.specs.Memory.{perByte, heapBlock, safeBlock, mapByte, mapDigit, codeOf, setCode, setCodes, startCode, laterCode, freeCode, ownerOf, isFree, segmentCodes}
+use Rattle.rules.specs.State.{ramByte}
 use Rattle.rules.specs.Malloc.{block, freeRun, firstRun}
 use Rattle.rules.specs.Free.{continued, segmentBlocks}
 use Rattle.laws.proofs.Tests.{byTest}
+use Rattle.laws.proofs.Map.{Bytes, setCodes-append}
 use Rattle.laws.proofs.Search.{free-block, block-free, free-run, free-run-at, search-here, search-skip}
 use Rattle.laws.proofs.Segments.{continued-end, continued-more, continued-stop}
+use Rattle.map.proofs.Halves.{set-both}
 
--- ---- writing n blocks from block k on, i blocks written
+-- ---- writing one code to a run of blocks
 
-module _ (bot : RamByte) (ram : List ℕ) (k n later : ℕ) where
-  pub run-first : (first : ℕ) → setCodes bot ram k (first ∷ replicate (n - 1) later) ≡ setCodes bot (setCode bot ram k first) (k + 1) (replicate (n - 1) later)
-  unfolding setCodes
-  run-first first = let next : suc k ≡ k + 1 = omega arith in rw (← next)
+-- the same places, counted from another byte on
+place-next : (b b′ : RamByte) (k k′ : ℕ) → mapByte b k ≡ mapByte b′ k′ → mapDigit k ≡ mapDigit k′
+    → (mapByte b (suc k) ≡ mapByte b′ (suc k′)) × (mapDigit (suc k) ≡ mapDigit (suc k′))
+unfolding mapByte mapDigit perByte
+place-next b b′ k k′ e f = (omega arith, omega arith)
 
-  pub run-next : (i : ℕ) → i < n
-      → setCodes bot ram (k + i) (replicate (n - i) later) ≡ setCodes bot (setCode bot ram (k + i) later) (k + (i + 1)) (replicate (n - (i + 1)) later)
-  unfolding setCodes
-  run-next i h =
-      let left : n - i ≡ suc (n - (i + 1)) = omega arith in
-      let next : suc (k + i) ≡ k + (i + 1) = omega arith in
-      rw (left, ← next)
+pub places-same : (b b′ : RamByte) (ram : List ℕ) (k k′ : ℕ) (vs : List ℕ) → mapByte b k ≡ mapByte b′ k′ → mapDigit k ≡ mapDigit k′
+    → setCodes b ram k vs ≡ setCodes b′ ram k′ vs
+unfolding setCodes setCode
+places-same b b′ ram k k′ [] e f = refl
+places-same b b′ ram k k′ (v ∷ vs) e f =
+    let (e′, f′) = place-next b b′ k k′ e f in
+    rw (e, f) (places-same b b′ _ (suc k) (suc k′) vs e′ f′)
 
-  pub run-end : (i : ℕ) → n ≤ i → setCodes bot ram (k + i) (replicate (n - i) later) ≡ ram
-  unfolding setCodes
-  run-end i h = let none : n - i ≡ 0 = omega arith in rw none
+pub from-even : (b bot : RamByte) (ram : List ℕ) (k : ℕ) (vs : List ℕ) → b .0 ≡ mapByte bot k → mapDigit k ≡ 0
+    → setCodes b ram 0 vs ≡ setCodes bot ram k vs
+unfolding mapByte mapDigit perByte
+from-even b bot ram k vs e f = places-same b bot ram 0 k vs (omega arith) (omega arith)
+
+-- whole bytes: the first, and those that are left
+pub bytes-next : (ram : List ℕ) (at left v : ℕ) → at < length ram → getD ram at 0 < 256 → v < 16
+    → setCodes (ramByte at) ram 0 (replicate (suc left * 2) v) ≡ setCodes (ramByte (at + 1)) (set ram at (v * 16 + v)) 0 (replicate (left * 2) v)
+unfolding setCodes mapByte mapDigit perByte
+bytes-next ram at left v inside byte small =
+    let two : suc left * 2 ≡ suc (suc (left * 2)) = omega arith in
+    let both = set-both (ramByte at) ram 0 at v v (omega arith) refl inside byte small in
+    rw (two, both) (sym (from-even (ramByte (at + 1)) (ramByte at) (setCode (ramByte at) (setCode (ramByte at) ram 0 v) 1 v) 2 (replicate (left * 2) v) (omega arith) refl))
+
+pub bytes-stay : (ram : List ℕ) (at v : ℕ) → at < length ram → v < 256 → Bytes ram → Bytes (set ram at v)
+bytes-stay ram at v inside small bytes i =
+    elim (ℕ-discrete i at) [ yes e ↦ rw (e, getD-set-same ram at v 0 inside) small | no d ↦ rw getD-set-other (bytes i) ]
+
+-- a run of n blocks: whole bytes, and a last block if n is odd
+pub run-even : (bot : RamByte) (ram : List ℕ) (k n v : ℕ) → n % 2 ≡ 0 → setCodes bot ram k (replicate (n / 2 * 2) v) ≡ setCodes bot ram k (replicate n v)
+run-even bot ram k n v even = let all : n / 2 * 2 ≡ n = omega arith in rw all
+
+pub run-odd : (bot : RamByte) (ram : List ℕ) (k n v : ℕ) → (n % 2 ≡ 0 → ⊥)
+    → setCode bot (setCodes bot ram k (replicate (n / 2 * 2) v)) (k + (n - 1)) v ≡ setCodes bot ram k (replicate n v)
+unfolding setCodes
+run-odd bot ram k n v odd =
+    let all : n ≡ n / 2 * 2 + 1 = omega arith in
+    let last : k + (n - 1) ≡ k + n / 2 * 2 = omega arith in
+    let parts : setCodes bot ram k (replicate (n / 2 * 2) v ++ replicate 1 v) ≡ setCode bot (setCodes bot ram k (replicate (n / 2 * 2) v)) (k + n / 2 * 2) v =
+    setCodes-append bot ram k (replicate (n / 2 * 2) v) (replicate 1 v) ∙ rw length-replicate in
+    rw last (sym parts ∙ ap (setCodes bot ram k) (replicate-append-replicate (n / 2 * 2) 1 v ∙ ap (λ (m : ℕ). replicate m v) (sym all)))
+
+-- the first block, and those that are left
+pub run-first : (bot : RamByte) (ram : List ℕ) (k first : ℕ) (vs : List ℕ) → setCodes bot (setCode bot ram k first) (k + 1) vs ≡ setCodes bot ram k (first ∷ vs)
+unfolding setCodes
+run-first bot ram k first vs = let next : suc k ≡ k + 1 = omega arith in rw (← next)
+
+pub segment-run : (d n : ℕ) → (n ≡ 0 → ⊥) → startCode d ∷ replicate (n - 1) (laterCode d) ≡ segmentCodes d n
+segment-run d zero some = absurd (some refl)
+segment-run d (suc n) some = let less : suc n - 1 ≡ n = omega arith in rw less
 
 -- ---- counting a segment of domain d from block k on: total blocks, of which n are counted, and the next has code read
 
@@ -92,20 +133,3 @@ module _ (c : Config) (ram : List ℕ) where
       let next : suc (k + run) ≡ k + (run + 1) = omega arith in
       let left : safeBlock c - k - (suc (k + run) - k) ≡ safeBlock c - (k + (run + 1)) = omega arith in
       search-skip c ram n k (safeBlock c - k) (k + run) (omega arith) (omega arith) (not-free (k + run) other) ∙ rw (left, next)
-
--- ---- set-up's codes, those of two places at a time
-
-pub set-up-next : (c : Config) (ram : List ℕ) (k places : ℕ) → k + 2 ≤ places
-    → setCodes (c .bot) ram k (setUpCodes c k (places - k))
-    ≡ setCodes (c .bot) (setCode (c .bot) (setCode (c .bot) ram k (setUpCode c k)) (k + 1) (setUpCode c (k + 1))) (k + 2)
-    (setUpCodes c (k + 2) (places - (k + 2)))
-unfolding setCodes setUpCodes
-set-up-next c ram k places h =
-    let left : places - k ≡ suc (suc (places - (k + 2))) = omega arith in
-    let one : suc k ≡ k + 1 = omega arith in
-    let two : suc (suc k) ≡ k + 2 = omega arith in
-    rw (left, ← one, ← two)
-
-pub set-up-end : (c : Config) (ram : List ℕ) (k places : ℕ) → places ≤ k → setCodes (c .bot) ram k (setUpCodes c k (places - k)) ≡ ram
-unfolding setCodes setUpCodes
-set-up-end c ram k places h = let none : places - k ≡ 0 = omega arith in rw none

@@ -3,11 +3,11 @@
 ghost use mathlib.Core.Bool.{true};
 ghost use mathlib.Core.List.{_∷_};
 ghost use mathlib.Core.Path.{_≡_};
-ghost use Prim.Native.Nat.{_+_, _-_, _≤_, _<_};
+ghost use Prim.Native.Nat.{_+_, _-_, _*_, _≤_, _<_};
 ghost use lib.ListN.{length, replicate};
-ghost use Rattle.rules.specs.Memory.{ramBytes, radix, mapByte, safeBlock, codeOf, setCode, setCodes, startCode, laterCode, freeCode, ownerOf, startsSegment, trusted};
+ghost use Rattle.rules.specs.Memory.{ramBytes, radix, perByte, mapByte, mapDigit, mapBytesFor, safeBlock, codeOf, setCode, setCodes, startCode, laterCode, freeCode, ownerOf, startsSegment, segmentCodes, trusted};
 ghost use Rattle.rules.specs.State.{goodConfig};
-ghost use Rattle.rules.specs.SetUp.{setUpCode, setUpRam};
+ghost use Rattle.rules.specs.SetUp.{setUpRam};
 ghost use Rattle.rules.specs.Malloc.{lowestRun};
 ghost use Rattle.rules.specs.Free.{segmentBlocks};
 use address::above;
@@ -15,7 +15,6 @@ use address::block_of;
 use address::first_block;
 use address::further;
 use address::packing::PER_BYTE;
-use address::packing::map_bytes_for;
 use rules::Block;
 use rules::Config;
 use rules::Found;
@@ -27,9 +26,9 @@ const FREE: u8 = 15;
 // The trusted domain.
 pub const TRUSTED: u8 = 7;
 
-// The byte of the map that holds a block's code.
+// The byte of the map that holds a block's code; it may be the one behind RAM, where a run of bytes ends.
 fn map_byte(bot: RamByte, k: Block) -> RamByte
-    requires { ⌜ mapByte bot (k .0) < ramBytes ⌝ }
+    requires { ⌜ mapByte bot (k .0) ≤ ramBytes ⌝ }
     ensures { λ r. ⌜ r .0 ≡ mapByte bot (k .0) ⌝ }
 {
     above(bot, k.0 / PER_BYTE)
@@ -98,6 +97,55 @@ pub fn free_code() -> u8
     FREE
 }
 
+// n bytes of the map from one on, both codes of each the same.
+fn fill_bytes(from: RamByte, ram: &mut [u8], n: u16, code: u8)
+    requires { ⌜ length (now ram) ≡ ramBytes ⌝ }
+    requires { ⌜ from .0 + n ≤ ramBytes ⌝ }
+    requires { ⌜ code < radix ⌝ }
+    ensures { λ _. ⌜ now (ram .exit) ≡ setCodes from (now (ram .entry)) 0 (replicate (n * perByte) code) ⌝ }
+{
+    let both = code * RADIX + code;
+    let end = above(from, n).0;
+    let mut at = from.0;
+    while at < end {
+        ram[at as usize] = both;
+        at += 1;
+    }
+}
+
+// n blocks from an even one on, all of one code: whole bytes, and a last block alone in its byte.
+fn fill_from_even(bot: RamByte, ram: &mut [u8], k: Block, n: u16, code: u8)
+    requires { ⌜ length (now ram) ≡ ramBytes ⌝ }
+    requires { ⌜ mapDigit (k .0) ≡ 0 ⌝ }
+    requires { ⌜ bot .0 + mapBytesFor (k .0 + n) ≤ ramBytes ⌝ }
+    requires { ⌜ code < radix ⌝ }
+    ensures { λ _. ⌜ now (ram .exit) ≡ setCodes bot (now (ram .entry)) (k .0) (replicate n code) ⌝ }
+{
+    fill_bytes(map_byte(bot, k), ram, n / PER_BYTE, code);
+    if n % PER_BYTE == 0 {
+        return;
+    }
+    set_code(bot, ram, further(k, n - 1), code);
+}
+
+// n blocks from k on, all of one code.
+fn fill(bot: RamByte, ram: &mut [u8], k: Block, n: u16, code: u8)
+    requires { ⌜ length (now ram) ≡ ramBytes ⌝ }
+    requires { ⌜ bot .0 + mapBytesFor (k .0 + n) ≤ ramBytes ⌝ }
+    requires { ⌜ code < radix ⌝ }
+    ensures { λ _. ⌜ now (ram .exit) ≡ setCodes bot (now (ram .entry)) (k .0) (replicate n code) ⌝ }
+{
+    if n == 0 {
+        return;
+    }
+    if k.0 % PER_BYTE == 0 {
+        fill_from_even(bot, ram, k, n, code);
+        return;
+    }
+    set_code(bot, ram, k, code);
+    fill_from_even(bot, ram, further(k, 1), n - 1, code);
+}
+
 // A run of n blocks from k on: its first code, then the later one.
 pub fn set_run(bot: RamByte, ram: &mut [u8], k: Block, n: u16, first: u8, later: u8)
     requires { ⌜ length (now ram) ≡ ramBytes ⌝ }
@@ -108,11 +156,7 @@ pub fn set_run(bot: RamByte, ram: &mut [u8], k: Block, n: u16, first: u8, later:
     ensures { λ _. ⌜ now (ram .exit) ≡ setCodes bot (now (ram .entry)) (k .0) (first ∷ replicate (n - 1) later) ⌝ }
 {
     set_code(bot, ram, k, first);
-    let mut i: u16 = 1;
-    while i < n {
-        set_code(bot, ram, further(k, i), later);
-        i += 1;
-    }
+    fill(bot, ram, further(k, 1), n - 1, later);
 }
 
 // How many blocks the segment that starts at k has: k and the heap blocks directly after it that continue the same owner.
@@ -162,46 +206,29 @@ pub fn lowest_run(config: Config, ram: &[u8], n: u16) -> Found
     found
 }
 
-// The code that set-up gives a place of the map.
-fn set_up_code(config: Config, k: Block) -> u8
-    requires { ⌜ goodConfig config ≡ true ⌝ }
-    ensures { λ r. ⌜ r ≡ setUpCode config (k .0) ⌝ }
+// n blocks of the trusted domain from k on: none, or a segment.
+fn set_trusted(bot: RamByte, ram: &mut [u8], k: Block, n: u16)
+    requires { ⌜ length (now ram) ≡ ramBytes ⌝ }
+    requires { ⌜ bot .0 + mapBytesFor (k .0 + n) ≤ ramBytes ⌝ }
+    ensures { λ _. ⌜ now (ram .exit) ≡ setCodes bot (now (ram .entry)) (k .0) (segmentCodes trusted n) ⌝ }
 {
-    if k.0 == 0 {
-        return start_code(TRUSTED);
+    if n == 0 {
+        return;
     }
-    let heap = block_of(config.bot, config.heap);
-    if k.0 < heap.0 {
-        return later_code(TRUSTED);
-    }
-    let safe = block_of(config.bot, config.safe);
-    if k.0 < safe.0 {
-        return FREE;
-    }
-    if k.0 == safe.0 {
-        return start_code(TRUSTED);
-    }
-    let end = block_of(config.bot, config.top);
-    if k.0 < end.0 {
-        return later_code(TRUSTED);
-    }
-    FREE
+    set_run(bot, ram, k, n, start_code(TRUSTED), later_code(TRUSTED));
 }
 
-// The map as set-up writes it, both codes of a byte at once.
+// The map as set-up writes it, area by area; last the unused half of an odd number of blocks.
 pub fn set_up_map(config: Config, ram: &mut [u8])
     requires { ⌜ length (now ram) ≡ ramBytes ⌝ }
     requires { ⌜ goodConfig config ≡ true ⌝ }
     ensures { λ _. ⌜ now (ram .exit) ≡ setUpRam config (now (ram .entry)) ⌝ }
 {
+    let heap = block_of(config.bot, config.heap);
+    let safe = block_of(config.bot, config.safe);
     let end = block_of(config.bot, config.top);
-    let places = map_bytes_for(end.0) * PER_BYTE;
-    let mut k = first_block();
-    while k.0 < places {
-        let low = set_up_code(config, k);
-        let high = set_up_code(config, further(k, 1));
-        let at = map_byte(config.bot, k);
-        ram[at.0 as usize] = high * RADIX + low;
-        k = further(k, PER_BYTE);
-    }
+    set_trusted(config.bot, ram, first_block(), heap.0);
+    fill(config.bot, ram, heap, safe.0 - heap.0, FREE);
+    set_trusted(config.bot, ram, safe, end.0 - safe.0);
+    fill(config.bot, ram, end, end.0 % PER_BYTE, FREE);
 }
