@@ -8,18 +8,21 @@ use native.Mathlib.Decide.{ℕ-discrete}
 use native.Mathlib.Omega.{arith}
 use mathlib.Core.Logic.{_≢_}
 use lib.ListN.{length, getD, set, replicate, length-replicate, replicate-append-replicate}
+use lib.Dec.{ltb}
 use lib.Seq.{getD-set-same, getD-set-other}
+use borrow.Author.Tests.{ltb-true, ltb-false}
 use Rattle.rules.specs.declared.RamByte.{RamByte}
 use Rattle.rules.specs.declared.Config.{Config}
 use Rattle.rules.specs.declared.Found.the-variants.{At}
-use Rattle.rules.specs.Memory.{perByte, heapBlock, safeBlock, mapByte, mapDigit, codeOf, setCode, setCodes, startCode, laterCode, freeCode, ownerOf, isFree, segmentCodes}
+use Rattle.rules.specs.Memory.{radix, perByte, heapBlock, safeBlock, mapByte, mapDigit, codeOf, setCode, setCodes, startCode, laterCode, freeCode, ownerOf, isFree, segmentCodes}
 use Rattle.rules.specs.State.{ramByte}
 use Rattle.rules.specs.Malloc.{block, freeRun, firstRun}
-use Rattle.rules.specs.Free.{continued, segmentBlocks}
+use Rattle.rules.specs.Free.{segmentBlocks}
 use Rattle.laws.proofs.Tests.{byTest}
-use Rattle.laws.proofs.Map.{Bytes, setCodes-append}
+use Rattle.laws.proofs.Codes.{laterCode-lt, ownerOf-le}
+use Rattle.laws.proofs.Map.{Bytes, code-lt, setCodes-append}
 use Rattle.laws.proofs.Search.{free-block, block-free, free-run, free-run-at, search-here, search-skip}
-use Rattle.laws.proofs.Segments.{continued-end, continued-more, continued-stop}
+use Rattle.laws.proofs.Segments.{segment-is}
 use Rattle.map.proofs.Halves.{set-both}
 
 -- ---- writing one code to a run of blocks
@@ -79,34 +82,19 @@ pub segment-run : (d n : ℕ) → (n ≡ 0 → ⊥) → startCode d ∷ replicat
 segment-run d zero some = absurd (some refl)
 segment-run d (suc n) some = let less : suc n - 1 ≡ n = omega arith in rw less
 
--- ---- counting a segment of domain d from block k on: total blocks, of which n are counted, and the next has code read
+-- ---- counting a segment of n blocks from block k on: those before block from continue it, and so do m more
 
-module _ (c : Config) (ram : List ℕ) (d k n end total : ℕ)
-    (so-far : total ≡ n + continued c ram d (k + n) (end - (k + n))) where
-  pub count-next : (read later : ℕ) → k + n < end → read ≡ codeOf (c .bot) ram (k + n) → later ≡ laterCode d → read ≡ later
-      → total ≡ n + 1 + continued c ram d (k + (n + 1)) (end - (k + (n + 1)))
-  count-next read later h r l e =
-      let left : end - (k + n) ≡ suc (end - (k + (n + 1))) = omega arith in
-      let next : suc (k + n) ≡ k + (n + 1) = omega arith in
-      so-far ∙ (rw (left, continued-more c ram d (k + n) (end - (k + (n + 1))) (sym r ∙ e ∙ l), next) (omega arith))
+pub later-lt : (bot : RamByte) (ram : List ℕ) (k later : ℕ) → later ≡ laterCode (ownerOf (codeOf bot ram k)) → later < radix
+later-lt bot ram k later e = rw e (laterCode-lt (ownerOf (codeOf bot ram k)) (ownerOf-le (codeOf bot ram k) (code-lt bot ram k)))
 
-  pub count-stop : (read later : ℕ) → k + n < end → read ≡ codeOf (c .bot) ram (k + n) → later ≡ laterCode d → read ≢ later → n ≡ total
-  count-stop read later h r l other =
-      let left : end - (k + n) ≡ suc (end - (k + (n + 1))) = omega arith in
-      let none : continued c ram d (k + n) (end - (k + n)) ≡ 0 =
-      rw left (continued-stop c ram d (k + n) (end - (k + (n + 1))) (λ e. other (r ∙ e ∙ sym l))) in
-      omega arith
-
-  pub count-end : end ≤ k + n → n ≡ total
-  count-end h =
-      let left : end - (k + n) ≡ 0 = omega arith in
-      let none : continued c ram d (k + n) (end - (k + n)) ≡ 0 = rw left (continued-end c ram d (k + n)) in
-      omega arith
-
-pub count-first : (c : Config) (ram : List ℕ) (k : ℕ)
-    → segmentBlocks c ram k ≡ 1 + continued c ram (ownerOf (codeOf (c .bot) ram k)) (k + 1) (safeBlock c - (k + 1))
-unfolding segmentBlocks
-count-first c ram k = let next : suc k ≡ k + 1 = omega arith in rw next (omega arith)
+pub segment-count : (c : Config) (ram : List ℕ) (k n from m later : ℕ) → later ≡ laterCode (ownerOf (codeOf (c .bot) ram k))
+    → k < from → k + n ≡ from + m → from + m ≤ safeBlock c → ((j : ℕ) → k < j → j < from → codeOf (c .bot) ram j ≡ later)
+    → ((j : ℕ) → from ≤ j → j < from + m → codeOf (c .bot) ram j ≡ later) → (from + m < safeBlock c → codeOf (c .bot) ram (from + m) ≢ later)
+    → n ≡ segmentBlocks c ram k
+segment-count c ram k n from m later code some all fits before more stop =
+    sym (segment-is c ram _ k n refl (omega arith) (omega arith)
+    (λ j l u. rw (← code) (byTest (ltb j from) (λ t. before j l (ltb-true j from t)) (λ t. more j (ltb-false j from t) (omega arith))))
+    (λ h. rw (← code, all) (stop (omega arith))))
 
 -- ---- looking for n free blocks in a row, of which run are found from block k on
 

@@ -2,9 +2,10 @@
 // and nowhere else in the code.
 ghost use mathlib.Core.Bool.{true};
 ghost use mathlib.Core.List.{_∷_};
+ghost use mathlib.Core.Logic.{_≢_};
 ghost use mathlib.Core.Path.{_≡_};
-ghost use Prim.Native.Nat.{_+_, _-_, _*_, _≤_, _<_};
-ghost use lib.ListN.{length, replicate};
+ghost use Prim.Native.Nat.{ℕ, _+_, _-_, _*_, _≤_, _<_};
+ghost use lib.ListN.{length, getD, replicate};
 ghost use Rattle.rules.specs.Memory.{ramBytes, radix, perByte, mapByte, mapDigit, mapBytesFor, safeBlock, codeOf, setCode, setCodes, startCode, laterCode, freeCode, ownerOf, startsSegment, segmentCodes, trusted};
 ghost use Rattle.rules.specs.State.{goodConfig};
 ghost use Rattle.rules.specs.SetUp.{setUpRam};
@@ -159,6 +160,46 @@ pub fn set_run(bot: RamByte, ram: &mut [u8], k: Block, n: u16, first: u8, later:
     fill(bot, ram, further(k, 1), n - 1, later);
 }
 
+// How many bytes from one on, at most n, are as given.
+fn bytes_alike(from: RamByte, ram: &[u8], n: u16, byte: u8) -> u16
+    requires { ⌜ length (now ram) ≡ ramBytes ⌝ }
+    requires { ⌜ from .0 + n ≤ ramBytes ⌝ }
+    ensures { λ r. ⌜ r ≤ n ⌝ }
+    ensures { λ r. ⌜ ((j : ℕ) → from .0 ≤ j → j < from .0 + r → getD (now (ram .entry)) j 0 ≡ byte) ⌝ }
+    ensures { λ r. ⌜ (r < n → getD (now (ram .entry)) (from .0 + r) 0 ≢ byte) ⌝ }
+{
+    let to = above(from, n).0;
+    let mut at = from.0;
+    while at < to {
+        if ram[at as usize] != byte {
+            return at - from.0;
+        }
+        at += 1;
+    }
+    n
+}
+
+// How many blocks from an even one on, at most n, have the code: by whole bytes, and then perhaps one more.
+fn blocks_alike(bot: RamByte, ram: &[u8], k: Block, n: u16, code: u8) -> u16
+    requires { ⌜ length (now ram) ≡ ramBytes ⌝ }
+    requires { ⌜ mapDigit (k .0) ≡ 0 ⌝ }
+    requires { ⌜ bot .0 + mapBytesFor (k .0 + n) ≤ ramBytes ⌝ }
+    requires { ⌜ code < radix ⌝ }
+    ensures { λ r. ⌜ r ≤ n ⌝ }
+    ensures { λ r. ⌜ ((j : ℕ) → k .0 ≤ j → j < k .0 + r → codeOf bot (now (ram .entry)) j ≡ code) ⌝ }
+    ensures { λ r. ⌜ (r < n → codeOf bot (now (ram .entry)) (k .0 + r) ≢ code) ⌝ }
+{
+    let both = code * RADIX + code;
+    let alike = bytes_alike(map_byte(bot, k), ram, n / PER_BYTE, both) * PER_BYTE;
+    if alike == n {
+        return n;
+    }
+    if code_of(bot, ram, further(k, alike)) != code {
+        return alike;
+    }
+    alike + 1
+}
+
 // How many blocks the segment that starts at k has: k and the heap blocks directly after it that continue the same owner.
 pub fn segment_blocks(config: Config, ram: &[u8], k: Block) -> u16
     requires { ⌜ length (now ram) ≡ ramBytes ⌝ }
@@ -166,16 +207,20 @@ pub fn segment_blocks(config: Config, ram: &[u8], k: Block) -> u16
     requires { ⌜ k .0 < safeBlock config ⌝ }
     ensures { λ r. ⌜ r ≡ segmentBlocks config (now (ram .entry)) (k .0) ⌝ }
 {
-    let end = block_of(config.bot, config.safe);
+    let end = block_of(config.bot, config.safe).0;
     let later = later_code(owner_of(code_of(config.bot, ram, k)));
-    let mut n: u16 = 1;
-    while k.0 + n < end.0 {
-        if code_of(config.bot, ram, further(k, n)) != later {
-            return n;
-        }
-        n += 1;
+    let next = further(k, 1);
+    if next.0 % PER_BYTE == 0 {
+        return 1 + blocks_alike(config.bot, ram, next, end - next.0, later);
     }
-    n
+    if next.0 == end {
+        return 1;
+    }
+    if code_of(config.bot, ram, next) != later {
+        return 1;
+    }
+    let even = further(k, 2);
+    2 + blocks_alike(config.bot, ram, even, end - even.0, later)
 }
 
 // The lowest run of n free heap blocks. Behind a block that is not free the search starts anew, so that no block is looked at twice.
