@@ -21,7 +21,7 @@ use Rattle.rules.specs.Free.{segmentBlocks}
 use Rattle.laws.proofs.Tests.{byTest}
 use Rattle.laws.proofs.Codes.{laterCode-lt, ownerOf-le}
 use Rattle.laws.proofs.Map.{Bytes, code-lt, setCodes-append}
-use Rattle.laws.proofs.Search.{free-block, block-free, free-run, free-run-at, search-here, search-skip}
+use Rattle.laws.proofs.Search.{free-block, block-free, free-run, search-here, search-skip}
 use Rattle.laws.proofs.Segments.{segment-is}
 use Rattle.map.proofs.Halves.{set-both}
 
@@ -102,14 +102,9 @@ module _ (c : Config) (ram : List ℕ) where
   not-free : (j : ℕ) → codeOf (c .bot) ram j ≢ freeCode → isFree c ram j ≡ false
   not-free j other = byTest (isFree c ram j) (λ t. absurd (other (free-block c ram j t .2))) (λ t. t)
 
-  pub run-longer : (k run : ℕ) → freeRun c ram k run ≡ true → heapBlock c ≤ k → k + run < safeBlock c → codeOf (c .bot) ram (k + run) ≡ freeCode
-      → freeRun c ram k (run + 1) ≡ true
-  run-longer k run free from to e =
-      free-run c ram (run + 1) k
-      (λ j l u. elim (ℕ-discrete j (k + run)) [
-        | yes q ↦ rw q (block-free c ram (k + run) (omega arith) to e)
-        | no d ↦ free-run-at c ram run k free j l (omega arith)
-      ])
+  pub codes-free : (k n : ℕ) → heapBlock c ≤ k → k + n ≤ safeBlock c → ((j : ℕ) → k ≤ j → j < k + n → codeOf (c .bot) ram j ≡ freeCode)
+      → freeRun c ram k n ≡ true
+  codes-free k n from to free = free-run c ram n k (λ j l u. block-free c ram j (omega arith) (omega arith) (free j l u))
 
   pub run-found : (n k : ℕ) → freeRun c ram k n ≡ true → k < safeBlock c → firstRun c ram n k (safeBlock c - k) ≡ At (block k)
   run-found n k free h = let left : safeBlock c - k ≡ suc (safeBlock c - (k + 1)) = omega arith in rw left (search-here c ram n k (safeBlock c - (k + 1)) free)

@@ -223,6 +223,31 @@ pub fn segment_blocks(config: Config, ram: &[u8], k: Block) -> u16
     2 + blocks_alike(config.bot, ram, even, end - even.0, later)
 }
 
+// How many free codes one look at the byte of block k finds from k on: both of the byte, one or none.
+fn free_codes(bot: RamByte, ram: &[u8], k: Block) -> u16
+    requires { ⌜ length (now ram) ≡ ramBytes ⌝ }
+    requires { ⌜ mapByte bot (k .0) < ramBytes ⌝ }
+    ensures { λ r. ⌜ r ≤ perByte ⌝ }
+    ensures { λ r. ⌜ ((j : ℕ) → k .0 ≤ j → j < k .0 + r → codeOf bot (now (ram .entry)) j ≡ freeCode) ⌝ }
+    ensures { λ r. ⌜ (r ≡ 0 → codeOf bot (now (ram .entry)) (k .0) ≢ freeCode) ⌝ }
+{
+    let at = map_byte(bot, k).0;
+    let byte = ram[at as usize];
+    if k.0 % PER_BYTE == 0 {
+        if byte == FREE * RADIX + FREE {
+            return 2;
+        }
+        if byte % RADIX == FREE {
+            return 1;
+        }
+        return 0;
+    }
+    if byte / RADIX == FREE {
+        return 1;
+    }
+    0
+}
+
 // The lowest run of n free heap blocks. Behind a block that is not free the search starts anew, so that no block is looked at twice.
 pub fn lowest_run(config: Config, ram: &[u8], n: u16) -> Found
     requires { ⌜ length (now ram) ≡ ramBytes ⌝ }
@@ -230,21 +255,22 @@ pub fn lowest_run(config: Config, ram: &[u8], n: u16) -> Found
     requires { ⌜ 0 < n ⌝ }
     ensures { λ r. ⌜ r ≡ lowestRun config (now (ram .entry)) n ⌝ }
 {
-    let end = block_of(config.bot, config.safe);
+    let end = block_of(config.bot, config.safe).0;
     let mut start = block_of(config.bot, config.heap);
     let found = 'search: loop {
+        if end - start.0 < n {
+            break 'search Found::Nowhere;
+        }
         let mut run: u16 = 0;
         loop {
-            if run == n {
+            if run >= n {
                 break 'search Found::At(start);
             }
-            if start.0 + run == end.0 {
-                break 'search Found::Nowhere;
-            }
-            if code_of(config.bot, ram, further(start, run)) != FREE {
+            let more = free_codes(config.bot, ram, further(start, run));
+            if more == 0 {
                 break;
             }
-            run += 1;
+            run += more;
         }
         start = further(start, run + 1);
     };
