@@ -1,14 +1,16 @@
 -- `map::lowest_run` meets its contract. Assumes nothing.
-use Prim.Native.Nat.{_+_, _-_, _≤_}
-use mathlib.Core.Bool.{true}
+use Prim.Native.Nat.{ℕ, _+_, _-_, _≤_, _<_}
 use mathlib.Core.Path.{_≡_, refl, sym, ap, _∙_}
 use native.Mathlib.Omega.{arith}
+use lib.Dec.{ltb}
+use borrow.Author.Tests.{ltb-true, ltb-false}
 use Rattle.rules.specs.declared.Block.{Block}
-use Rattle.rules.specs.Memory.{ramBytes, heapBlock, safeBlock, freeCode}
-use Rattle.rules.specs.Malloc.{freeRun, firstRun, lowestRun}
+use Rattle.rules.specs.Memory.{ramBytes, perByte, heapBlock, safeBlock, codeOf, freeCode}
+use Rattle.rules.specs.Malloc.{firstRun, lowestRun}
 use Rattle.laws.proofs.Good.{goodConfig-facts, heapBlock≤safeBlock}
 use Rattle.laws.proofs.Search.{search-past}
-use Rattle.map.proofs.Runs.{run-longer, run-found, run-broken}
+use Rattle.laws.proofs.Tests.{byTest}
+use Rattle.map.proofs.Runs.{codes-free, run-found, run-broken}
 use Rattle.map.proofs.Within.{bot≤heap, bot≤safe, safeBlock≤ram, code<ram}
 use borrow.Author.Needs.{needs}
 use Rattle.map.proofs.lowest_run.Statement.{statement}
@@ -16,19 +18,18 @@ use Rattle.map.proofs.lowest_run.Tie as tie
 
 abbrev Inv-loop : tie.InvT-loop
 Inv-loop config ram n end start run₀ run =
-    (end .0 ≡ safeBlock config) × (safeBlock config ≤ ramBytes) × (run ≤ n) × (start .0 + run ≤ safeBlock config)
-    × (freeRun config ram (start .0) run ≡ true)
+    (run ≤ n + 1) × ((j : ℕ) → start .0 ≤ j → j < start .0 + run → codeOf (config .bot) ram j ≡ freeCode)
 
 abbrev μ-loop : tie.MeasureT-loop
-μ-loop config ram n end start run₀ run = n - run
+μ-loop config ram n end start run₀ run = n + 1 - run
 
 abbrev Inv-search : tie.InvT-search
 Inv-search config ram n end start₀ start =
-    (end .0 ≡ safeBlock config) × (safeBlock config ≤ ramBytes) × (heapBlock config ≤ start .0) × (start .0 ≤ safeBlock config)
+    (end ≡ safeBlock config) × (safeBlock config ≤ ramBytes) × (heapBlock config ≤ start .0) × (start .0 ≤ safeBlock config)
     × (lowestRun config ram n ≡ firstRun config ram n (start .0) (safeBlock config - start .0))
 
 abbrev μ-search : tie.MeasureT-search
-μ-search config ram n end start₀ start = end .0 - start .0
+μ-search config ram n end start₀ start = end - start .0
 
 block-of-requires : tie.Need-block-of-requires Inv-loop μ-loop Inv-search μ-search
 block-of-requires c κs = bot≤safe _ (c .before .pre .1 .0)
@@ -47,34 +48,34 @@ search-holds c =
       rw heap,
     )
 
-loop-holds : tie.Need-loop-holds Inv-loop μ-loop Inv-search μ-search
-unfolding freeRun
-loop-holds c = (c .search .inv .0, c .search .inv .1, omega arith, omega arith, refl)
+sub-if1 : tie.Need-sub-if1 Inv-loop μ-loop Inv-search μ-search
+sub-if1 c = search needs
 
-add-if2 : tie.Need-add-if2 Inv-loop μ-loop Inv-search μ-search
-add-if2 c = search needs
+loop-holds : tie.Need-loop-holds Inv-loop μ-loop Inv-search μ-search
+loop-holds c = (omega arith, λ j l u. absurd (omega arith))
 
 further-requires : tie.Need-further-requires Inv-loop μ-loop Inv-search μ-search
 further-requires c κs = search needs
 
-code-of-requires : tie.Need-code-of-requires Inv-loop μ-loop Inv-search μ-search
-code-of-requires c κs = (c .before .before .before .before .before .before .before .before .before .before .pre .0, rw (c .further .ensures) (code<ram _ (c .before .before .before .before .before .before .before .before .before .before .pre .1 .0) _ (omega arith)))
+free-codes-requires : tie.Need-free-codes-requires Inv-loop μ-loop Inv-search μ-search
+free-codes-requires c κs = (c .before .before .before .before .before .before .before .before .before .pre .0, rw (c .further .ensures) (code<ram _ (c .before .before .before .before .before .before .before .before .before .pre .1 .0) _ (omega arith)))
 
 add-run : tie.Need-add-run Inv-loop μ-loop Inv-search μ-search
-add-run c = search needs
+unfolding perByte
+add-run c = omega arith
 
 loop-less : tie.Need-loop-less Inv-loop μ-loop Inv-search μ-search
-loop-less c = search needs
+unfolding perByte
+loop-less c = omega arith
 
 loop-again : tie.Need-loop-again Inv-loop μ-loop Inv-search μ-search
-unfolding freeCode
+unfolding perByte
 loop-again c =
-    let inv = c .before .before .before .before .before .before .before .loop .inv in (
-      inv .0,
-      inv .1,
+    let start = c .before .before .before .before .before .before .before .search .start .0 in
+    let run = c .before .before .before .before .loop .run in
+    let more = rw (c .before .before .further .ensures) at (c .before .free-codes .ensures .1 .0) in (
       omega arith,
-      omega arith,
-      run-longer _ _ _ _ (inv .4) (c .before .before .before .before .before .before .before .before .search .inv .2) (omega arith) (sym (rw (c .before .before .further .ensures) at (c .before .code-of .ensures)) ∙ c .if3 .left),
+      λ j l u. byTest (ltb j (start + run)) (λ t. c .before .before .before .before .loop .inv .1 j l (ltb-true _ _ t)) (λ t. more j (ltb-false _ _ t) (omega arith)),
     )
 
 add-further : tie.Need-add-further Inv-loop μ-loop Inv-search μ-search
@@ -87,21 +88,23 @@ search-less : tie.Need-search-less Inv-loop μ-loop Inv-search μ-search
 search-less c = rw (c .further2 .ensures) (omega arith)
 
 search-again : tie.Need-search-again Inv-loop μ-loop Inv-search μ-search
-unfolding freeCode
 search-again c =
+    let inv = c .before .before .before .before .before .before .before .before .search .inv in
     rw (c .further2 .ensures) (
-      c .before .before .before .before .before .before .before .before .before .search .inv .0,
-      c .before .before .before .before .before .before .before .before .before .search .inv .1,
+      inv .0,
+      inv .1,
       omega arith,
       omega arith,
-      c .before .before .before .before .before .before .before .before .before .search .inv .4 ∙ run-broken _ _ _ _ _ (omega arith) (λ e. c .before .if3 .taken ((rw (c .before .before .before .further .ensures) at (c .before .before .code-of .ensures)) ∙ e)),
+      inv .4 ∙ run-broken _ _ _ _ _ (omega arith) (rw (c .before .before .before .further .ensures) at (c .before .before .free-codes .ensures .1 .1 (c .before .if3 .taken))),
     )
 
 returns : tie.Need-returns Inv-loop μ-loop Inv-search μ-search
-returns c = sym (c .before .before .search .inv .4 ∙ run-found _ _ _ _ (rw (c .if1 .taken) at (c .before .loop .inv .4)) (omega (arith, c .before .before .before .before .before .before .pre .1 .1)))
+returns c = sym (c .before .before .search .inv .4 ∙ search-past _ _ _ _ _ (c .before .before .before .before .before .before .pre .1 .1) (omega arith))
 
 returns-2 : tie.Need-returns-2 Inv-loop μ-loop Inv-search μ-search
-returns-2 c = sym (c .before .before .before .before .before .search .inv .4 ∙ search-past _ _ _ _ _ (c .before .before .before .before .before .before .before .before .before .pre .1 .1) (omega arith))
+returns-2 c =
+    let inv = c .before .before .before .before .search .inv in
+    sym (inv .4 ∙ run-found _ _ _ _ (codes-free _ _ _ _ (inv .2) (omega arith) (λ j l u. c .before .loop .inv .1 j l (omega arith))) (omega (arith, c .before .before .before .before .before .before .before .before .pre .1 .1)))
 
 pub lowest-run-spec : {M : Type 1} → statement M
 lowest-run-spec =
@@ -114,10 +117,10 @@ lowest-run-spec =
     block-of-requires
     block-of-requires-2
     search-holds
+    sub-if1
     loop-holds
-    add-if2
     further-requires
-    code-of-requires
+    free-codes-requires
     add-run
     loop-less
     loop-again
