@@ -4,10 +4,11 @@ use Prim.Native.Nat.{ℕ, _+_, _%_, _≤_, _<_}
 use mathlib.Core.Path.{_≡_}
 use mathlib.Core.Bool.{true}
 use native.Mathlib.Omega.{arith}
+use Rattle.rules.specs.declared.RamByte.{RamByte}
 use Rattle.rules.specs.declared.Config.{Config}
-use Rattle.rules.specs.Memory.{ramBytes, dividedUp, blocks, safeBlock, mapBytes, mapBytesFor, perByte, mapByte}
+use Rattle.rules.specs.Memory.{ramBytes, startOf, blockOf, dividedUp, blocks, safeBlock, mapBytes, mapBytesFor, perByte, mapByte}
 use Rattle.rules.specs.State.{goodConfig}
-use Rattle.laws.proofs.Good.{GoodConfig, goodConfig-facts, bot<heap, blocks≤ram, safeBlock≤blocks, mapByte<heap}
+use Rattle.laws.proofs.Good.{GoodConfig, goodConfig-facts, bot<heap, blocks≤ram, safeBlock≤blocks, to-safe, block-fits, mapByte<heap}
 
 module _ (c : Config) (good : goodConfig c ≡ true) where
   facts : GoodConfig c
@@ -33,3 +34,10 @@ module _ (c : Config) (good : goodConfig c ≡ true) where
   pub room : (k : ℕ) → k ≤ blocks c + blocks c % 2 → c .bot .0 + mapBytesFor k ≤ ramBytes
   unfolding mapBytes mapBytesFor dividedUp perByte
   room k h = omega (arith, facts .map≤heap, facts .heap≤safe, facts .safe≤top, facts .top≤ram)
+
+  -- a heap address lies in a block before the safe stack area, and the start of such a block is an address
+  pub block<safe : (a : RamByte) → c .heap .0 ≤ a .0 → a .0 < c .safe .0 → blockOf (c .bot) a < safeBlock c
+  block<safe a from to = to-safe facts a (omega (arith, bot≤heap)) to
+
+  pub start-fits : (k : ℕ) → k < safeBlock c → startOf (c .bot) k < 65536
+  start-fits k h = omega (arith, block-fits facts {k = k} (omega (arith, safeBlock≤blocks facts)), facts .top≤ram)

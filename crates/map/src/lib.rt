@@ -11,6 +11,9 @@ ghost use Rattle.rules.specs.State.{goodConfig};
 ghost use Rattle.rules.specs.SetUp.{setUpRam};
 ghost use Rattle.rules.specs.Malloc.{lowestRun};
 ghost use Rattle.rules.specs.Free.{segmentBlocks};
+
+pub mod by_address;
+
 use address::above;
 use address::block_of;
 use address::first_block;
@@ -36,7 +39,7 @@ fn map_byte(bot: RamByte, k: Block) -> RamByte
 }
 
 // The code of a block: the low half of its byte for an even block, the high half for an odd one.
-pub fn code_of(bot: RamByte, ram: &[u8], k: Block) -> u8
+fn code_of(bot: RamByte, ram: &[u8], k: Block) -> u8
     requires { ⌜ length (now ram) ≡ ramBytes ⌝ }
     requires { ⌜ mapByte bot (k .0) < ramBytes ⌝ }
     ensures { λ r. ⌜ r ≡ codeOf bot (now (ram .entry)) (k .0) ⌝ }
@@ -50,7 +53,7 @@ pub fn code_of(bot: RamByte, ram: &[u8], k: Block) -> u8
 }
 
 // The code of a block made another; the other code of its byte stays.
-pub fn set_code(bot: RamByte, ram: &mut [u8], k: Block, code: u8)
+fn set_code(bot: RamByte, ram: &mut [u8], k: Block, code: u8)
     requires { ⌜ length (now ram) ≡ ramBytes ⌝ }
     requires { ⌜ mapByte bot (k .0) < ramBytes ⌝ }
     requires { ⌜ code < radix ⌝ }
@@ -148,7 +151,7 @@ fn fill(bot: RamByte, ram: &mut [u8], k: Block, n: u16, code: u8)
 }
 
 // A run of n blocks from k on: its first code, then the later one.
-pub fn set_run(bot: RamByte, ram: &mut [u8], k: Block, n: u16, first: u8, later: u8)
+fn set_run(bot: RamByte, ram: &mut [u8], k: Block, n: u16, first: u8, later: u8)
     requires { ⌜ length (now ram) ≡ ramBytes ⌝ }
     requires { ⌜ 0 < n ⌝ }
     requires { ⌜ mapByte bot (k .0 + (n - 1)) < ramBytes ⌝ }
@@ -201,7 +204,7 @@ fn blocks_alike(bot: RamByte, ram: &[u8], k: Block, n: u16, code: u8) -> u16
 }
 
 // How many blocks the segment that starts at k has: k and the heap blocks directly after it that continue the same owner.
-pub fn segment_blocks(config: Config, ram: &[u8], k: Block) -> u16
+fn segment_blocks(config: Config, ram: &[u8], k: Block) -> u16
     requires { ⌜ length (now ram) ≡ ramBytes ⌝ }
     requires { ⌜ goodConfig config ≡ true ⌝ }
     requires { ⌜ k .0 < safeBlock config ⌝ }
@@ -249,7 +252,7 @@ fn free_codes(bot: RamByte, ram: &[u8], k: Block) -> u16
 }
 
 // The lowest run of n free heap blocks. Behind a block that is not free the search starts anew, so that no block is looked at twice.
-pub fn lowest_run(config: Config, ram: &[u8], n: u16) -> Found
+fn lowest_run(config: Config, ram: &[u8], n: u16) -> Found
     requires { ⌜ length (now ram) ≡ ramBytes ⌝ }
     requires { ⌜ goodConfig config ≡ true ⌝ }
     requires { ⌜ 0 < n ⌝ }

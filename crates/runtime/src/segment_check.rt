@@ -1,38 +1,37 @@
-// Section 5, free and change: the segment that starts at an address, or which refusal both get.
+// Section 5, free and change: whether a segment of the current domain starts at an address, or which refusal both get.
 ghost use Rattle.runtime.specs.Places.{SegmentFor};
 use crate::RAM_BYTES;
-use crate::places::Place;
+use map::by_address;
+use rules::Answer;
 use rules::RamByte;
 use rules::Refusal;
 use rules::State;
 
-pub fn segment_at(state: State, ram: &[u8], address: RamByte) -> Place
+pub fn segment_at(state: State, ram: &[u8], address: RamByte) -> Answer
     ensures { λ r. ⌜ SegmentFor r state (now (ram .entry)) address ⌝ }
 {
     if ram.len() != RAM_BYTES {
-        return Place::Refused(Refusal::WrongSize);
+        return Answer::Refused(Refusal::WrongSize);
     }
     if !good::good_state(state) {
-        return Place::Refused(Refusal::BadState);
+        return Answer::Refused(Refusal::BadState);
     }
     let config = state.config;
     if address.0 < config.heap.0 {
-        return Place::Refused(Refusal::NoSegment);
+        return Answer::Refused(Refusal::NoSegment);
     }
     if config.safe.0 <= address.0 {
-        return Place::Refused(Refusal::NoSegment);
+        return Answer::Refused(Refusal::NoSegment);
     }
-    let k = address::block_of(config.bot, address);
-    let start = address::start_of(config.bot, k);
-    if start.0 != address.0 {
-        return Place::Refused(Refusal::NoSegment);
+    if !by_address::is_first(config.bot, address) {
+        return Answer::Refused(Refusal::NoSegment);
     }
-    let code = map::code_of(config.bot, ram, k);
+    let code = by_address::code_at(config.bot, ram, address);
     if !map::starts_segment(code) {
-        return Place::Refused(Refusal::NoSegment);
+        return Answer::Refused(Refusal::NoSegment);
     }
     if map::owner_of(code) != state.domain {
-        return Place::Refused(Refusal::NotOwner);
+        return Answer::Refused(Refusal::NotOwner);
     }
-    Place::At(k)
+    Answer::Done(0)
 }

@@ -3,9 +3,8 @@ use mathlib.Core.Path.{refl}
 use native.Mathlib.Omega.{arith}
 use borrow.Author.Tests.{eq-eqb, ne-eqb, le-leb, lt-leb, lt-ltb, le-ltb}
 use Rattle.laws.proofs.Tests.{passed, failed}
-use Rattle.laws.proofs.Blocks.{start-le}
-use Rattle.map.proofs.Within.{bot≤heap, code<ram}
-use Rattle.runtime.proofs.Acts.{config-good, heap-block}
+use Rattle.map.proofs.Within.{bot≤heap, code<ram, block<safe}
+use Rattle.runtime.proofs.Acts.{config-good}
 use borrow.Author.Needs.{needs}
 use Rattle.runtime.proofs.segment_check.segment_at.Statement.{statement}
 use Rattle.runtime.proofs.segment_check.segment_at.Tie as tie
@@ -34,33 +33,24 @@ returns-4 c =
     )
     (refl, λ d. refl)
 
-block-of-requires : tie.Need-block-of-requires
-block-of-requires c κs =
-    omega (arith, bot≤heap _ (config-good _ (passed (c .before .before .before .before .before .before .before .before .good-state .ensures) (c .before .before .before .before .before .before .before .if2 .left))), c .before .before .before .if3 .left)
-
-start-of-requires : tie.Need-start-of-requires
-start-of-requires c κs =
-    rw (c .block-of .ensures)
-    (omega (arith, start-le (c .before .before .before .before .before .before .before .before .before .before .before .before .args .state .config .bot) (c .before .before .before .before .before .before .before .before .before .before .before .before .args .address) (omega (arith, bot≤heap _ (config-good _ (passed (c .before .before .before .before .before .before .before .before .before .good-state .ensures) (c .before .before .before .before .before .before .before .before .if2 .left))), c .before .before .before .before .if3 .left)), c .before .if4 .left))
+is-first-requires : tie.Need-is-first-requires
+is-first-requires c κs = omega (arith, bot≤heap _ (config-good _ (passed (c .before .before .before .before .before .before .before .before .good-state .ensures) (c .before .before .before .before .before .before .before .if2 .left))), c .before .before .before .if3 .left)
 
 returns-5 : tie.Need-returns-5
 returns-5 c =
     simp (
-      eq-eqb _ _ (c .before .before .before .before .before .before .before .before .before .before .before .before .before .before .if1 .left),
-      rw (c .before .before .before .before .before .before .before .before .before .before .before .before .before .good-state .ensures) at (c .before .before .before .before .before .before .before .before .before .before .before .before .if2 .left),
-      le-leb _ _ (c .before .before .before .before .before .before .before .before .if3 .left),
-      lt-ltb _ _ (c .before .before .before .before .before .if4 .left),
-      ne-eqb _ _ (rw (c .before .before .before .start-of .ensures, c .before .before .before .before .block-of .ensures) at (c .if5 .taken)),
+      eq-eqb _ _ (c .before .before .before .before .before .before .before .before .before .before .before .if1 .left),
+      rw (c .before .before .before .before .before .before .before .before .before .before .good-state .ensures) at (c .before .before .before .before .before .before .before .before .before .if2 .left),
+      le-leb _ _ (c .before .before .before .before .before .if3 .left),
+      lt-ltb _ _ (c .before .before .if4 .left),
+      failed (c .before .is-first .ensures) (c .if5 .taken),
     )
     (refl, λ d. refl)
 
-code-of-requires : tie.Need-code-of-requires
-code-of-requires c κs = (
-  c .before .before .before .before .before .before .before .before .before .before .before .before .before .before .if1 .left,
-  rw (c .before .before .before .before .block-of .ensures)
-      (let good = passed (c .before .before .before .before .before .before .before .before .before .before .before .before .before .good-state .ensures) (c .before .before .before .before .before .before .before .before .before .before .before .before .if2 .left) in
-      code<ram _ (config-good _ good) _ (heap-block _ _ good (c .before .before .before .before .before .before .before .before .if3 .left) (c .before .before .before .before .before .if4 .left))),
-)
+code-at-requires : tie.Need-code-at-requires
+code-at-requires c κs =
+    let good = config-good _ (passed (c .before .before .before .before .before .before .before .before .before .before .good-state .ensures) (c .before .before .before .before .before .before .before .before .before .if2 .left)) in
+    (c .before .before .before .before .before .before .before .before .before .before .before .if1 .left, (omega (arith, bot≤heap _ good, c .before .before .before .before .before .if3 .left), code<ram _ good _ (block<safe _ good _ (c .before .before .before .before .before .if3 .left) (c .before .before .if4 .left))))
 
 starts-segment-requires : tie.Need-starts-segment-requires
 starts-segment-requires c κs = search needs
@@ -68,12 +58,12 @@ starts-segment-requires c κs = search needs
 returns-6 : tie.Need-returns-6
 returns-6 c =
     simp (
-      eq-eqb _ _ (c .before .before .before .before .before .before .before .before .before .before .before .before .before .before .before .before .before .if1 .left),
-      rw (c .before .before .before .before .before .before .before .before .before .before .before .before .before .before .before .before .good-state .ensures) at (c .before .before .before .before .before .before .before .before .before .before .before .before .before .before .before .if2 .left),
-      le-leb _ _ (c .before .before .before .before .before .before .before .before .before .before .before .if3 .left),
-      lt-ltb _ _ (c .before .before .before .before .before .before .before .before .if4 .left),
-      eq-eqb _ _ (rw (c .before .before .before .before .before .before .start-of .ensures, c .before .before .before .before .before .before .before .block-of .ensures) at (c .before .before .before .if5 .left)),
-      failed (rw (c .before .before .code-of .ensures, c .before .before .before .before .before .before .before .block-of .ensures) at (c .before .starts-segment .ensures)) (c .if6 .taken),
+      eq-eqb _ _ (c .before .before .before .before .before .before .before .before .before .before .before .before .before .before .if1 .left),
+      rw (c .before .before .before .before .before .before .before .before .before .before .before .before .before .good-state .ensures) at (c .before .before .before .before .before .before .before .before .before .before .before .before .if2 .left),
+      le-leb _ _ (c .before .before .before .before .before .before .before .before .if3 .left),
+      lt-ltb _ _ (c .before .before .before .before .before .if4 .left),
+      passed (c .before .before .before .before .is-first .ensures) (c .before .before .before .if5 .left),
+      failed (rw (c .before .before .code-at .ensures) at (c .before .starts-segment .ensures)) (c .if6 .taken),
     )
     (refl, λ d. refl)
 
@@ -83,30 +73,29 @@ owner-of-requires c κs = search needs
 returns-7 : tie.Need-returns-7
 returns-7 c =
     simp (
-      eq-eqb _ _ (c .before .before .before .before .before .before .before .before .before .before .before .before .before .before .before .before .before .before .before .before .if1 .left),
-      rw (c .before .before .before .before .before .before .before .before .before .before .before .before .before .before .before .before .before .before .before .good-state .ensures) at (c .before .before .before .before .before .before .before .before .before .before .before .before .before .before .before .before .before .before .if2 .left),
-      le-leb _ _ (c .before .before .before .before .before .before .before .before .before .before .before .before .before .before .if3 .left),
-      lt-ltb _ _ (c .before .before .before .before .before .before .before .before .before .before .before .if4 .left),
-      eq-eqb _ _ (rw (c .before .before .before .before .before .before .before .before .before .start-of .ensures, c .before .before .before .before .before .before .before .before .before .before .block-of .ensures) at (c .before .before .before .before .before .before .if5 .left)),
-      passed (rw (c .before .before .before .before .before .code-of .ensures, c .before .before .before .before .before .before .before .before .before .before .block-of .ensures) at (c .before .before .before .before .starts-segment .ensures)) (c .before .before .before .if6 .left),
-      ne-eqb _ _ (rw (c .before .before .owner-of .ensures, c .before .before .before .before .before .code-of .ensures, c .before .before .before .before .before .before .before .before .before .before .block-of .ensures) at (c .if7 .taken)),
+      eq-eqb _ _ (c .before .before .before .before .before .before .before .before .before .before .before .before .before .before .before .before .before .if1 .left),
+      rw (c .before .before .before .before .before .before .before .before .before .before .before .before .before .before .before .before .good-state .ensures) at (c .before .before .before .before .before .before .before .before .before .before .before .before .before .before .before .if2 .left),
+      le-leb _ _ (c .before .before .before .before .before .before .before .before .before .before .before .if3 .left),
+      lt-ltb _ _ (c .before .before .before .before .before .before .before .before .if4 .left),
+      passed (c .before .before .before .before .before .before .before .is-first .ensures) (c .before .before .before .before .before .before .if5 .left),
+      passed (rw (c .before .before .before .before .before .code-at .ensures) at (c .before .before .before .before .starts-segment .ensures)) (c .before .before .before .if6 .left),
+      ne-eqb _ _ (rw (c .before .before .owner-of .ensures, c .before .before .before .before .before .code-at .ensures) at (c .if7 .taken)),
     )
     (refl, λ d. refl)
 
 returns-8 : tie.Need-returns-8
 returns-8 c =
     record {
-      sized = c .before .before .before .before .before .before .before .before .before .before .before .before .before .before .before .before .before .before .before .before .if1 .left;
-      good = passed (c .before .before .before .before .before .before .before .before .before .before .before .before .before .before .before .before .before .before .before .good-state .ensures) (c .before .before .before .before .before .before .before .before .before .before .before .before .before .before .before .before .before .before .if2 .left);
+      sized = c .before .before .before .before .before .before .before .before .before .before .before .before .before .before .before .before .before .if1 .left;
+      good = passed (c .before .before .before .before .before .before .before .before .before .before .before .before .before .before .before .before .good-state .ensures) (c .before .before .before .before .before .before .before .before .before .before .before .before .before .before .before .if2 .left);
       starts =
           simp (
-            le-leb _ _ (c .before .before .before .before .before .before .before .before .before .before .before .before .before .before .if3 .left),
-            lt-ltb _ _ (c .before .before .before .before .before .before .before .before .before .before .before .if4 .left),
-            eq-eqb _ _ (rw (c .before .before .before .before .before .before .before .before .before .start-of .ensures, c .before .before .before .before .before .before .before .before .before .before .block-of .ensures) at (c .before .before .before .before .before .before .if5 .left)),
-            passed (rw (c .before .before .before .before .before .code-of .ensures, c .before .before .before .before .before .before .before .before .before .before .block-of .ensures) at (c .before .before .before .before .starts-segment .ensures)) (c .before .before .before .if6 .left),
+            le-leb _ _ (c .before .before .before .before .before .before .before .before .before .before .before .if3 .left),
+            lt-ltb _ _ (c .before .before .before .before .before .before .before .before .if4 .left),
+            passed (c .before .before .before .before .before .before .before .is-first .ensures) (c .before .before .before .before .before .before .if5 .left),
+            passed (rw (c .before .before .before .before .before .code-at .ensures) at (c .before .before .before .before .starts-segment .ensures)) (c .before .before .before .if6 .left),
           );
-      owned = rw (c .before .before .owner-of .ensures, c .before .before .before .before .before .code-of .ensures, c .before .before .before .before .before .before .before .before .before .before .block-of .ensures) at (c .if7 .left);
-      place = c .before .before .before .before .before .before .before .before .before .before .block-of .ensures;
+      owned = rw (c .before .before .owner-of .ensures, c .before .before .before .before .before .code-at .ensures) at (c .if7 .left);
     }
 
 pub segment-at-spec : {M : Type 1} → statement M
@@ -118,10 +107,9 @@ segment-at-spec =
     returns-2
     returns-3
     returns-4
-    block-of-requires
-    start-of-requires
+    is-first-requires
     returns-5
-    code-of-requires
+    code-at-requires
     starts-segment-requires
     returns-6
     owner-of-requires

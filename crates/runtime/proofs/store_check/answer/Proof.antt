@@ -1,7 +1,7 @@
 -- `runtime::store_check::answer` meets its contract. Assumes nothing.
 use mathlib.Core.Path.{sym, _∙_}
 use Rattle.laws.proofs.Tests.{failed, passed}
-use Rattle.runtime.proofs.StoreRows.{wrong-size, bad-state, past-ram, by-trusted, below-bot, above-bound, on-stack, of-other, of-own, owner-read, map-byte-inside}
+use Rattle.runtime.proofs.StoreRows.{wrong-size, bad-state, past-ram, by-trusted, below-bot, above-bound, on-stack, of-other, of-own, map-byte-inside}
 use borrow.Author.Needs.{needs}
 use Rattle.runtime.proofs.store_check.answer.Statement.{statement}
 use Rattle.runtime.proofs.store_check.answer.Tie as tie
@@ -46,30 +46,22 @@ returns-7 c =
     on-stack (x .state) (x .ram .now) (x .address) (c .before .before .before .before .before .before .before .before .before .before .before .before .before .before .before .before .if1 .left) (passed (c .before .before .before .before .before .before .before .before .before .before .before .before .before .before .before .good-state .ensures) (c .before .before .before .before .before .before .before .before .before .before .before .before .before .before .if2 .left)) (c .before .before .before .before .before .before .before .before .before .before .before .before .if3 .left) (c .before .before .before .before .before .before .before .before .before .before .if4 .left) (c .before .before .before .before .before .before .if5 .left)
     (c .before .before .before .if6 .taken) (c .if7 .left)
 
-block-of-requires : tie.Need-block-of-requires
-block-of-requires c κs = search needs
-
-code-of-requires : tie.Need-code-of-requires
-code-of-requires c κs =
-    let x = c .before .before .before .before .before .before .before .before .before .before .before .before .before .before .before .before .args in
-    (c .before .before .before .before .before .before .before .before .before .before .before .before .before .before .if1 .left, rw (c .block-of .ensures) (map-byte-inside (x .state) (x .address) (passed (c .before .before .before .before .before .before .before .before .before .before .before .before .before .good-state .ensures) (c .before .before .before .before .before .before .before .before .before .before .before .before .if2 .left)) (c .before .before .before .before .if5 .left) (c .before .if6 .left)))
-
-owner-of-requires : tie.Need-owner-of-requires
-owner-of-requires c κs = search needs
+owner-at-requires : tie.Need-owner-at-requires
+owner-at-requires c κs =
+    let x = c .before .before .before .before .before .before .before .before .before .before .before .before .before .before .before .args in
+    (c .before .before .before .before .before .before .before .before .before .before .before .before .before .if1 .left, (c .before .before .before .if5 .left, map-byte-inside (x .state) (x .address) (passed (c .before .before .before .before .before .before .before .before .before .before .before .before .good-state .ensures) (c .before .before .before .before .before .before .before .before .before .before .before .if2 .left)) (c .before .before .before .if5 .left) (c .if6 .left)))
 
 returns-8 : tie.Need-returns-8
 returns-8 c =
-    let x = c .before .before .before .before .before .before .before .before .before .before .before .before .before .before .before .before .before .before .before .before .args in
-    let e = owner-read (x .state) (x .ram .now) (x .address) _ _ _ (c .before .before .before .before .block-of .ensures) (c .before .before .before .code-of .ensures) (c .before .before .owner-of .ensures) in
-    of-other (x .state) (x .ram .now) (x .address) (c .before .before .before .before .before .before .before .before .before .before .before .before .before .before .before .before .before .before .if1 .left) (passed (c .before .before .before .before .before .before .before .before .before .before .before .before .before .before .before .before .before .good-state .ensures) (c .before .before .before .before .before .before .before .before .before .before .before .before .before .before .before .before .if2 .left)) (c .before .before .before .before .before .before .before .before .before .before .before .before .before .before .if3 .left) (c .before .before .before .before .before .before .before .before .before .before .before .before .if4 .left) (c .before .before .before .before .before .before .before .before .if5 .left)
-    (c .before .before .before .before .before .if6 .left) (λ h. c .if8 .taken (e ∙ h))
+    let x = c .before .before .before .before .before .before .before .before .before .before .before .before .before .before .before .before .before .before .args in
+    of-other (x .state) (x .ram .now) (x .address) (c .before .before .before .before .before .before .before .before .before .before .before .before .before .before .before .before .if1 .left) (passed (c .before .before .before .before .before .before .before .before .before .before .before .before .before .before .before .good-state .ensures) (c .before .before .before .before .before .before .before .before .before .before .before .before .before .before .if2 .left)) (c .before .before .before .before .before .before .before .before .before .before .before .before .if3 .left) (c .before .before .before .before .before .before .before .before .before .before .if4 .left) (c .before .before .before .before .before .before .if5 .left)
+    (c .before .before .before .if6 .left) (λ h. c .if8 .taken (c .before .before .owner-at .ensures ∙ h))
 
 returns-9 : tie.Need-returns-9
 returns-9 c =
-    let x = c .before .before .before .before .before .before .before .before .before .before .before .before .before .before .before .before .before .before .before .before .args in
-    let e = owner-read (x .state) (x .ram .now) (x .address) _ _ _ (c .before .before .before .before .block-of .ensures) (c .before .before .before .code-of .ensures) (c .before .before .owner-of .ensures) in
-    of-own (x .state) (x .ram .now) (x .address) (c .before .before .before .before .before .before .before .before .before .before .before .before .before .before .before .before .before .before .if1 .left) (passed (c .before .before .before .before .before .before .before .before .before .before .before .before .before .before .before .before .before .good-state .ensures) (c .before .before .before .before .before .before .before .before .before .before .before .before .before .before .before .before .if2 .left)) (c .before .before .before .before .before .before .before .before .before .before .before .before .before .before .if3 .left) (c .before .before .before .before .before .before .before .before .before .before .before .before .if4 .left) (c .before .before .before .before .before .before .before .before .if5 .left)
-    (c .before .before .before .before .before .if6 .left) (sym e ∙ c .if8 .left)
+    let x = c .before .before .before .before .before .before .before .before .before .before .before .before .before .before .before .before .before .before .args in
+    of-own (x .state) (x .ram .now) (x .address) (c .before .before .before .before .before .before .before .before .before .before .before .before .before .before .before .before .if1 .left) (passed (c .before .before .before .before .before .before .before .before .before .before .before .before .before .before .before .good-state .ensures) (c .before .before .before .before .before .before .before .before .before .before .before .before .before .before .if2 .left)) (c .before .before .before .before .before .before .before .before .before .before .before .before .if3 .left) (c .before .before .before .before .before .before .before .before .before .before .if4 .left) (c .before .before .before .before .before .before .if5 .left)
+    (c .before .before .before .if6 .left) (sym (c .before .before .owner-at .ensures) ∙ c .if8 .left)
 
 pub answer-spec : {M : Type 1} → statement M
 answer-spec =
@@ -83,8 +75,6 @@ answer-spec =
     returns-5
     returns-6
     returns-7
-    block-of-requires
-    code-of-requires
-    owner-of-requires
+    owner-at-requires
     returns-8
     returns-9)

@@ -1,0 +1,2 @@
+-- What the map's functions hand back, in the rules' words.
+pub mod Runs
