@@ -1,0 +1,2 @@
+-- What the map's own functions say to each other.
+pub mod Look
