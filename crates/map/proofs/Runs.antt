@@ -15,7 +15,7 @@ use borrow.Author.Tests.{ltb-true, ltb-false}
 use Rattle.rules.specs.declared.RamByte.{RamByte}
 use Rattle.rules.specs.declared.Config.{Config}
 use Rattle.rules.specs.declared.Found.the-variants.{At}
-use Rattle.rules.specs.Memory.{radix, perByte, heapBlock, safeBlock, mapByte, mapDigit, codeOf, setCode, setCodes, startCode, laterCode, freeCode, ownerOf, isFree, segmentCodes}
+use Rattle.rules.specs.Memory.{radix, perByte, heapBlock, safeBlock, mapByte, mapDigit, codeOf, setCode, setCodes, laterCode, freeCode, ownerOf, isFree}
 use Rattle.rules.specs.State.{ramByte}
 use Rattle.rules.specs.Malloc.{block, freeRun, firstRun}
 use Rattle.rules.specs.Free.{segmentBlocks}
@@ -78,10 +78,6 @@ run-odd bot ram k n v odd =
 pub run-first : (bot : RamByte) (ram : List ℕ) (k first : ℕ) (vs : List ℕ) → setCodes bot (setCode bot ram k first) (k + 1) vs ≡ setCodes bot ram k (first ∷ vs)
 unfolding setCodes
 run-first bot ram k first vs = let next : suc k ≡ k + 1 = omega arith in rw (← next)
-
-pub segment-run : (d n : ℕ) → (n ≡ 0 → ⊥) → startCode d ∷ replicate (n - 1) (laterCode d) ≡ segmentCodes d n
-segment-run d zero some = absurd (some refl)
-segment-run d (suc n) some = let less : suc n - 1 ≡ n = omega arith in rw less
 
 -- ---- counting a segment of n blocks from block k on: those before block from continue it, and so do m more
 

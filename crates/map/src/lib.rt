@@ -28,7 +28,7 @@ const FREE: u8 = 15;
 // The trusted domain.
 pub const TRUSTED: u8 = 7;
 
-// The byte of the map that holds a block's code; it may be the one behind RAM, where a run of bytes ends.
+// The byte of the map that holds a block's code; of a block behind a run it may be the one behind RAM.
 fn map_byte(bot: RamByte, k: Block) -> RamByte
     requires { ⌜ mapByte bot (k .0) ≤ ramBytes ⌝ }
     ensures { λ r. ⌜ r .0 ≡ mapByte bot (k .0) ⌝ }
@@ -220,11 +220,11 @@ pub fn segment_blocks(config: Config, ram: &[u8], k: Block) -> u16
     if code_of(config.bot, ram, next) != later {
         return 1;
     }
-    let even = further(k, 2);
+    let even = further(next, 1);
     2 + blocks_alike(config.bot, ram, even, end - even.0, later)
 }
 
-// What one look at the byte of a block shows from that block on: so many free blocks, a free one before one that is not, or so many that are not.
+// What one look at a block's byte shows from that block on: free blocks, a free one before one that is not, or blocks that are not.
 enum Seen {
     Free(u16),
     LastFree,
@@ -246,7 +246,7 @@ fn look(bot: RamByte, ram: &[u8], k: Block) -> Seen
         return Seen::Used(1);
     }
     if byte == FREE * RADIX + FREE {
-        return Seen::Free(2);
+        return Seen::Free(PER_BYTE);
     }
     if byte % RADIX == FREE {
         return Seen::LastFree;
@@ -254,10 +254,10 @@ fn look(bot: RamByte, ram: &[u8], k: Block) -> Seen
     if byte / RADIX == FREE {
         return Seen::Used(1);
     }
-    Seen::Used(2)
+    Seen::Used(PER_BYTE)
 }
 
-// The lowest run of n free heap blocks. Behind a block that is not free the search starts anew, so that no block is looked at more than twice.
+// The lowest run of n free heap blocks. Behind a block that is not free the search starts anew: none is looked at more than twice.
 pub fn lowest_run(config: Config, ram: &[u8], n: u16) -> Found
     requires { ⌜ length (now ram) ≡ ramBytes ⌝ }
     requires { ⌜ goodConfig config ≡ true ⌝ }

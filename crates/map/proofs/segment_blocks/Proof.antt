@@ -77,7 +77,9 @@ returns-3 c =
     (cc) (omega arith) (omega arith) (omega (arith, c .before .before .before .before .before .before .before .before .before .before .before .before .pre .1 .1)) (λ j l u. absurd (omega arith)) (λ j l u. absurd (omega arith)) (λ h. rw add-zero (λ e. omega (arith, c .before .code-of2 .ensures)))
 
 further-requires-2 : tie.Need-further-requires-2
-further-requires-2 c κs = omega (arith, c .before .before .before .before .before .before .before .before .before .before .before .before .pre .1 .1, safeBlock≤ram (c .before .before .before .before .before .before .before .before .before .before .before .before .args .config) (c .before .before .before .before .before .before .before .before .before .before .before .before .pre .1 .0))
+further-requires-2 c κs =
+    let next : c .before .before .before .before .before .before .further .result .0 ≡ c .before .before .before .before .before .before .before .before .before .before .before .before .args .k .0 + 1 = ap (λ (b : Block). b .0) (c .before .before .before .before .before .before .further .ensures) in
+    omega (arith, c .before .before .before .before .before .before .before .before .before .before .before .before .pre .1 .1, safeBlock≤ram (c .before .before .before .before .before .before .before .before .before .before .before .before .args .config) (c .before .before .before .before .before .before .before .before .before .before .before .before .pre .1 .0))
 
 sub-blocks-alike-2 : tie.Need-sub-blocks-alike-2
 unfolding safeBlock
@@ -91,7 +93,7 @@ unfolding safeBlock mapDigit perByte
 blocks-alike-requires-2 c κs =
     let end : c .before .before .before .before .before .before .before .before .before .before .before .before .block-of .result .0 ≡ safeBlock (c .before .before .before .before .before .before .before .before .before .before .before .before .before .before .args .config) = ap (λ (b : Block). b .0) (c .before .before .before .before .before .before .before .before .before .before .before .before .block-of .ensures) in
     let next : c .before .before .before .before .before .before .before .before .further .result .0 ≡ c .before .before .before .before .before .before .before .before .before .before .before .before .before .before .args .k .0 + 1 = ap (λ (b : Block). b .0) (c .before .before .before .before .before .before .before .before .further .ensures) in
-    let even : c .before .further2 .result .0 ≡ c .before .before .before .before .before .before .before .before .before .before .before .before .before .before .args .k .0 + 2 = ap (λ (b : Block). b .0) (c .before .further2 .ensures) in
+    let even : c .before .further2 .result .0 ≡ c .before .before .before .before .before .before .before .before .further .result .0 + 1 = ap (λ (b : Block). b .0) (c .before .further2 .ensures) in
     (c .before .before .before .before .before .before .before .before .before .before .before .before .before .before .pre .0, (omega (arith, c .before .before .before .before .before .before .if1 .left), (room (c .before .before .before .before .before .before .before .before .before .before .before .before .before .before .args .config) (c .before .before .before .before .before .before .before .before .before .before .before .before .before .before .pre .1 .0) _ (omega (arith, c .before .before .before .before .before .before .before .before .before .before .before .before .before .before .pre .1 .1, safeBlock≤blocks (goodConfig-facts (c .before .before .before .before .before .before .before .before .before .before .before .before .before .before .args .config) (c .before .before .before .before .before .before .before .before .before .before .before .before .before .before .pre .1 .0)))), later-lt (c .before .before .before .before .before .before .before .before .before .before .before .before .before .before .args .config .bot) (c .before .before .before .before .before .before .before .before .before .before .before .before .before .before .args .ram .now) (c .before .before .before .before .before .before .before .before .before .before .before .before .before .before .args .k .0) _ cc)))
 
 add-result-2 : tie.Need-add-result-2
@@ -105,7 +107,7 @@ unfolding safeBlock
 returns-4 c =
     let end : c .before .before .before .before .before .before .before .before .before .before .before .before .before .block-of .result .0 ≡ safeBlock (c .before .before .before .before .before .before .before .before .before .before .before .before .before .before .before .args .config) = ap (λ (b : Block). b .0) (c .before .before .before .before .before .before .before .before .before .before .before .before .before .block-of .ensures) in
     let next : c .before .before .before .before .before .before .before .before .before .further .result .0 ≡ c .before .before .before .before .before .before .before .before .before .before .before .before .before .before .before .args .k .0 + 1 = ap (λ (b : Block). b .0) (c .before .before .before .before .before .before .before .before .before .further .ensures) in
-    let even : c .before .before .further2 .result .0 ≡ c .before .before .before .before .before .before .before .before .before .before .before .before .before .before .before .args .k .0 + 2 = ap (λ (b : Block). b .0) (c .before .before .further2 .ensures) in
+    let even : c .before .before .further2 .result .0 ≡ c .before .before .before .before .before .before .before .before .before .further .result .0 + 1 = ap (λ (b : Block). b .0) (c .before .before .further2 .ensures) in
     segment-count (c .before .before .before .before .before .before .before .before .before .before .before .before .before .before .before .args .config) (c .before .before .before .before .before .before .before .before .before .before .before .before .before .before .before .args .ram .now) (c .before .before .before .before .before .before .before .before .before .before .before .before .before .before .before .args .k .0) (2 + c .blocks-alike2 .result) (c .before .before .further2 .result .0) (c .blocks-alike2 .result) (c .before .before .before .before .before .before .before .before .before .before .later-code .result)
     (cc) (omega arith) (omega arith) (omega (arith, c .before .before .before .before .before .before .before .before .before .before .before .before .before .before .before .pre .1 .1))
     (λ j l u. let here : j ≡ c .before .before .before .before .before .before .before .before .before .further .result .0 = omega arith in rw here (sym (c .before .before .before .before .code-of2 .ensures) ∙ c .before .before .before .if3 .left))
