@@ -26,7 +26,9 @@ same-length : tie.Need-same-length
 same-length c = search needs
 
 returns-2 : tie.Need-returns-2
-returns-2 c = let all : c .before .before .before .before .before .before .before .before .args .n ≡ suc (c .before .before .before .before .before .before .before .before .args .n - 1) = omega arith in rw all (cc)
+returns-2 c =
+    let all : c .before .before .before .before .before .before .before .before .args .n ≡ suc (c .before .before .before .before .before .before .before .before .args .n - 1) = omega arith in
+    rw all (rw (c .before .before .before .before .start-code .ensures, c .before .before .before .later-code .ensures) at (c .before .before .set-run .ensures))
 
 pub set-trusted-spec : {M : Type 1} → statement M
 set-trusted-spec =
