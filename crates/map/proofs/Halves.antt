@@ -45,13 +45,16 @@ module _ (bot : RamByte) (ram : List ℕ) (k at v : ℕ) (place : at ≡ mapByte
   unfolding mapByte perByte
   behind = omega arith
 
+  pub next-half : getD ram at 0 < 256 → getD ram at 0 / 16 ≡ codeOf bot ram (k + 1)
+  next-half = high-half bot ram (k + 1) at behind (λ q. omega arith)
+
   pub codes-alike : v < 16 → getD ram at 0 ≡ v * 16 + v → (codeOf bot ram k ≡ v) × (codeOf bot ram (k + 1) ≡ v)
   codes-alike small e =
-      (sym (low-half bot ram k at place even) ∙ omega arith, sym (high-half bot ram (k + 1) at behind (λ q. omega arith) (omega arith)) ∙ omega arith)
+      (sym (low-half bot ram k at place even) ∙ omega arith, sym (next-half (omega arith)) ∙ omega arith)
 
   pub codes-differ : getD ram at 0 < 256 → getD ram at 0 ≢ v * 16 + v → codeOf bot ram k ≡ v → codeOf bot ram (k + 1) ≢ v
   codes-differ byte n e f =
-      n (omega (arith, low-half bot ram k at place even, high-half bot ram (k + 1) at behind (λ q. omega arith) byte))
+      n (omega (arith, low-half bot ram k at place even, next-half byte))
 
 -- so the codes of a run of such bytes are all v
 pub codes-of-bytes : (bot : RamByte) (ram : List ℕ) (k at n v : ℕ) → at ≡ mapByte bot k → k % 2 ≡ 0 → v < 16

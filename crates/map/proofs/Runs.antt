@@ -4,6 +4,7 @@ use Prim.Native.Nat.{ℕ, zero, suc, _+_, _-_, _*_, _/_, _%_, _≤_, _<_}
 use mathlib.Core.Path.{_≡_, refl, sym, ap, _∙_}
 use mathlib.Core.Bool.{true, false}
 use mathlib.Core.List.{List, [], _∷_, _++_}
+use native.Mathlib.Nat.{add-zero}
 use native.Mathlib.Decide.{ℕ-discrete}
 use native.Mathlib.Omega.{arith}
 use mathlib.Core.Logic.{_≢_}
@@ -14,7 +15,7 @@ use borrow.Author.Tests.{ltb-true, ltb-false}
 use Rattle.rules.specs.declared.RamByte.{RamByte}
 use Rattle.rules.specs.declared.Config.{Config}
 use Rattle.rules.specs.declared.Found.the-variants.{At}
-use Rattle.rules.specs.Memory.{radix, perByte, heapBlock, safeBlock, mapByte, mapDigit, codeOf, setCode, setCodes, startCode, laterCode, freeCode, ownerOf, isFree, segmentCodes}
+use Rattle.rules.specs.Memory.{radix, perByte, heapBlock, safeBlock, mapByte, mapDigit, codeOf, setCode, setCodes, laterCode, freeCode, ownerOf, isFree}
 use Rattle.rules.specs.State.{ramByte}
 use Rattle.rules.specs.Malloc.{block, freeRun, firstRun}
 use Rattle.rules.specs.Free.{segmentBlocks}
@@ -78,10 +79,6 @@ pub run-first : (bot : RamByte) (ram : List ℕ) (k first : ℕ) (vs : List ℕ)
 unfolding setCodes
 run-first bot ram k first vs = let next : suc k ≡ k + 1 = omega arith in rw (← next)
 
-pub segment-run : (d n : ℕ) → (n ≡ 0 → ⊥) → startCode d ∷ replicate (n - 1) (laterCode d) ≡ segmentCodes d n
-segment-run d zero some = absurd (some refl)
-segment-run d (suc n) some = let less : suc n - 1 ≡ n = omega arith in rw less
-
 -- ---- counting a segment of n blocks from block k on: those before block from continue it, and so do m more
 
 pub later-lt : (bot : RamByte) (ram : List ℕ) (k later : ℕ) → later ≡ laterCode (ownerOf (codeOf bot ram k)) → later < radix
@@ -110,9 +107,25 @@ module _ (c : Config) (ram : List ℕ) where
   run-found n k free h = let left : safeBlock c - k ≡ suc (safeBlock c - (k + 1)) = omega arith in rw left (search-here c ram n k (safeBlock c - (k + 1)) free)
 
   -- the next start is behind a block that is not free
-  pub run-broken : (n k run : ℕ) → run < n → codeOf (c .bot) ram (k + run) ≢ freeCode
+  run-broken : (n k run : ℕ) → run < n → codeOf (c .bot) ram (k + run) ≢ freeCode
       → firstRun c ram n k (safeBlock c - k) ≡ firstRun c ram n (k + (run + 1)) (safeBlock c - (k + (run + 1)))
   run-broken n k run h other =
       let next : suc (k + run) ≡ k + (run + 1) = omega arith in
       let left : safeBlock c - k - (suc (k + run) - k) ≡ safeBlock c - (k + (run + 1)) = omega arith in
       search-skip c ram n k (safeBlock c - k) (k + run) (omega arith) (omega arith) (not-free (k + run) other) ∙ rw (left, next)
+
+  -- and behind m blocks that are not free
+  skip-used : (n m k : ℕ) → 0 < n → ((j : ℕ) → k ≤ j → j < k + m → codeOf (c .bot) ram j ≢ freeCode)
+      → firstRun c ram n k (safeBlock c - k) ≡ firstRun c ram n (k + m) (safeBlock c - (k + m))
+  skip-used n zero k p used = rw add-zero
+  skip-used n (suc m) k p used =
+      let on : k + 1 + m ≡ k + suc m = omega arith in
+      run-broken n k 0 p (rw add-zero (used k (omega arith) (omega arith)))
+      ∙ (rw on at (skip-used n m (k + 1) p (λ j l u. used j (omega arith) (omega arith))))
+
+  pub run-used : (n k run m : ℕ) → run < n → 0 < m → ((j : ℕ) → k + run ≤ j → j < k + run + m → codeOf (c .bot) ram j ≢ freeCode)
+      → firstRun c ram n k (safeBlock c - k) ≡ firstRun c ram n (k + run + m) (safeBlock c - (k + run + m))
+  run-used n k run m h some used =
+      let on : k + (run + 1) + (m - 1) ≡ k + run + m = omega arith in
+      run-broken n k run h (used (k + run) (omega arith) (omega arith))
+      ∙ (rw on at (skip-used n (m - 1) (k + (run + 1)) (omega arith) (λ j l u. used j (omega arith) (omega arith))))

@@ -11,6 +11,7 @@ ghost use Rattle.rules.specs.State.{goodConfig};
 ghost use Rattle.rules.specs.SetUp.{setUpRam};
 ghost use Rattle.rules.specs.Malloc.{lowestRun};
 ghost use Rattle.rules.specs.Free.{segmentBlocks};
+ghost use Rattle.map.specs.Look.{shows};
 
 pub mod by_address;
 
@@ -30,7 +31,7 @@ const FREE: u8 = 15;
 // The trusted domain.
 pub const TRUSTED: u8 = 7;
 
-// The byte of the map that holds a block's code; it may be the one behind RAM, where a run of bytes ends.
+// The byte of the map that holds a block's code; of a block behind a run it may be the one behind RAM.
 fn map_byte(bot: RamByte, k: Block) -> RamByte
     requires { ⌜ mapByte bot (k .0) ≤ ramBytes ⌝ }
     ensures { λ r. ⌜ r .0 ≡ mapByte bot (k .0) ⌝ }
@@ -222,36 +223,44 @@ fn segment_blocks(config: Config, ram: &[u8], k: Block) -> u16
     if code_of(config.bot, ram, next) != later {
         return 1;
     }
-    let even = further(k, 2);
+    let even = further(next, 1);
     2 + blocks_alike(config.bot, ram, even, end - even.0, later)
 }
 
-// How many free codes one look at the byte of block k finds from k on: both of the byte, one or none.
-fn free_codes(bot: RamByte, ram: &[u8], k: Block) -> u16
+// What one look at a block's byte shows from that block on: free blocks, a free one before one that is not, or blocks that are not.
+enum Seen {
+    Free(u16),
+    LastFree,
+    Used(u16),
+}
+
+// An even block is seen together with the next.
+fn look(bot: RamByte, ram: &[u8], k: Block) -> Seen
     requires { ⌜ length (now ram) ≡ ramBytes ⌝ }
     requires { ⌜ mapByte bot (k .0) < ramBytes ⌝ }
-    ensures { λ r. ⌜ r ≤ perByte ⌝ }
-    ensures { λ r. ⌜ ((j : ℕ) → k .0 ≤ j → j < k .0 + r → codeOf bot (now (ram .entry)) j ≡ freeCode) ⌝ }
-    ensures { λ r. ⌜ (r ≡ 0 → codeOf bot (now (ram .entry)) (k .0) ≢ freeCode) ⌝ }
+    ensures { λ r. ⌜ shows bot (now (ram .entry)) (k .0) r ⌝ }
 {
     let at = map_byte(bot, k).0;
     let byte = ram[at as usize];
-    if k.0 % PER_BYTE == 0 {
-        if byte == FREE * RADIX + FREE {
-            return 2;
+    if k.0 % PER_BYTE != 0 {
+        if byte / RADIX == FREE {
+            return Seen::Free(1);
         }
-        if byte % RADIX == FREE {
-            return 1;
-        }
-        return 0;
+        return Seen::Used(1);
+    }
+    if byte == FREE * RADIX + FREE {
+        return Seen::Free(PER_BYTE);
+    }
+    if byte % RADIX == FREE {
+        return Seen::LastFree;
     }
     if byte / RADIX == FREE {
-        return 1;
+        return Seen::Used(1);
     }
-    0
+    Seen::Used(PER_BYTE)
 }
 
-// The lowest run of n free heap blocks. Behind a block that is not free the search starts anew, so that no block is looked at twice.
+// The lowest run of n free heap blocks. Behind a block that is not free the search starts anew: none is looked at more than twice.
 fn lowest_run(config: Config, ram: &[u8], n: u16) -> Found
     requires { ⌜ length (now ram) ≡ ramBytes ⌝ }
     requires { ⌜ goodConfig config ≡ true ⌝ }
@@ -259,23 +268,34 @@ fn lowest_run(config: Config, ram: &[u8], n: u16) -> Found
     ensures { λ r. ⌜ r ≡ lowestRun config (now (ram .entry)) n ⌝ }
 {
     let end = block_of(config.bot, config.safe).0;
+    if end < n {
+        return Found::Nowhere;
+    }
     let mut start = block_of(config.bot, config.heap);
     let found = 'search: loop {
-        if end - start.0 < n {
+        if start.0 > end - n {
             break 'search Found::Nowhere;
         }
         let mut run: u16 = 0;
-        loop {
-            if run >= n {
-                break 'search Found::At(start);
+        while run < n {
+            let k = further(start, run);
+            let seen = look(config.bot, ram, k);
+            match seen {
+                Seen::Free(m) => run += m,
+                Seen::LastFree => {
+                    if run + 1 == n {
+                        break 'search Found::At(start);
+                    }
+                    start = further(k, 2);
+                    continue 'search;
+                }
+                Seen::Used(m) => {
+                    start = further(k, m);
+                    continue 'search;
+                }
             }
-            let more = free_codes(config.bot, ram, further(start, run));
-            if more == 0 {
-                break;
-            }
-            run += more;
         }
-        start = further(start, run + 1);
+        break 'search Found::At(start);
     };
     found
 }

@@ -1,9 +1,7 @@
 -- `map::fill` meets its contract. Assumes nothing.
 use Prim.Native.Nat.{suc, _-_}
-use mathlib.Core.Path.{_≡_, ap, _∙_}
+use mathlib.Core.Path.{_≡_, _∙_}
 use native.Mathlib.Omega.{arith}
-use lib.ListN.{replicate}
-use Rattle.rules.specs.declared.Block.{Block}
 use Rattle.rules.specs.Memory.{dividedUp, mapByte, mapDigit, mapBytesFor, perByte, setCodes}
 use Rattle.map.proofs.Runs.{run-first}
 use borrow.Author.Needs.{needs}
@@ -44,9 +42,8 @@ same-length-2 c = search needs
 
 returns-3 : tie.Need-returns-3
 returns-3 c =
-    let start = c .before .before .before .before .before .before .before .before .before .before .before .before .before .args in
-    let all : start .n ≡ suc (start .n - 1) = omega arith in
-    rw all (cc (run-first (start .bot) (start .ram .now) (start .k .0) (start .code) (replicate (start .n - 1) (start .code)), ap (λ (b : Block). b .0) (c .before .before .before .further .ensures)))
+    let all : c .before .before .before .before .before .before .before .before .before .before .before .before .before .args .n ≡ suc (c .before .before .before .before .before .before .before .before .before .before .before .before .before .args .n - 1) = omega arith in
+    rw all ((rw (c .before .before .before .further .ensures, c .before .before .before .before .before .before .before .set-code .ensures) at (c .before .before .fill-from-even2 .ensures)) ∙ run-first _ _ _ _ _)
 
 pub fill-spec : {M : Type 1} → statement M
 fill-spec =

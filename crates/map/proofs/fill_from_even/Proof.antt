@@ -1,9 +1,8 @@
 -- `map::fill_from_even` meets its contract. Assumes nothing.
 use Prim.Native.Nat.{_*_, _/_}
-use mathlib.Core.Path.{ap, _∙_}
+use mathlib.Core.Path.{_∙_}
 use native.Mathlib.Omega.{arith}
 use lib.ListN.{replicate}
-use Rattle.rules.specs.declared.Block.{Block}
 use Rattle.rules.specs.Memory.{dividedUp, mapByte, mapDigit, mapBytesFor, perByte}
 use Rattle.map.proofs.Runs.{from-even, run-even, run-odd}
 use borrow.Author.Needs.{needs}
@@ -43,7 +42,8 @@ returns-2 : tie.Need-returns-2
 unfolding perByte
 returns-2 c =
     let start = c .before .before .before .before .before .before .before .before .before .before .before .before .args in
-    cc (from-even (c .before .before .before .before .before .before .before .before .before .before .map-byte .result) (start .bot) (start .ram .now) (start .k .0) (replicate (start .n / 2 * 2) (start .code)) (c .before .before .before .before .before .before .before .before .before .before .map-byte .ensures) (c .before .before .before .before .before .before .before .before .before .before .before .before .pre .1 .0), run-odd (start .bot) (start .ram .now) (start .k .0) (start .n) (start .code) (c .before .before .before .before .before .if1 .left), ap (λ (b : Block). b .0) (c .before .before .before .further .ensures))
+    let even = from-even _ (start .bot) (start .ram .now) (start .k .0) (replicate (start .n / 2 * 2) (start .code)) (c .before .before .before .before .before .before .before .before .before .before .map-byte .ensures) (c .before .before .before .before .before .before .before .before .before .before .before .before .pre .1 .0) in
+    (rw (c .before .before .before .further .ensures, c .before .before .before .before .before .before .before .before .fill-bytes .ensures, even) at (c .before .before .set-code .ensures)) ∙ run-odd _ _ _ _ _ (c .before .before .before .before .before .if1 .left)
 
 pub fill-from-even-spec : {M : Type 1} → statement M
 fill-from-even-spec =

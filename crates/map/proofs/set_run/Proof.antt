@@ -1,9 +1,7 @@
 -- `map::set_run` meets its contract. Assumes nothing.
 use Prim.Native.Nat.{_-_}
-use mathlib.Core.Path.{ap, _∙_}
+use mathlib.Core.Path.{_∙_}
 use native.Mathlib.Omega.{arith}
-use lib.ListN.{replicate}
-use Rattle.rules.specs.declared.Block.{Block}
 use Rattle.rules.specs.Memory.{dividedUp, mapByte, mapBytesFor, perByte}
 use Rattle.map.proofs.Runs.{run-first}
 use borrow.Author.Needs.{needs}
@@ -29,9 +27,7 @@ same-length : tie.Need-same-length
 same-length c = search needs
 
 returns : tie.Need-returns
-returns c =
-    let start = c .before .before .before .before .before .before .before .before .before .before .args in
-    cc (run-first (start .bot) (start .ram .now) (start .k .0) (start .first) (replicate (start .n - 1) (start .later)), ap (λ (b : Block). b .0) (c .before .before .before .further .ensures))
+returns c = (rw (c .before .before .before .further .ensures, c .before .before .before .before .before .before .before .set-code .ensures) at (c .before .before .fill .ensures)) ∙ run-first _ _ _ _ _
 
 pub set-run-spec : {M : Type 1} → statement M
 set-run-spec =

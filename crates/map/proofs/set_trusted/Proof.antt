@@ -1,8 +1,9 @@
 -- `map::set_trusted` meets its contract. Assumes nothing.
+use Prim.Native.Nat.{suc, _-_}
+use mathlib.Core.Path.{_≡_}
 use native.Mathlib.Omega.{arith}
 use Rattle.rules.specs.Memory.{dividedUp, mapByte, mapBytesFor, perByte, setCodes, trusted}
 use Rattle.laws.proofs.Codes.{startCode-lt, laterCode-lt}
-use Rattle.map.proofs.Runs.{segment-run}
 use borrow.Author.Needs.{needs}
 use Rattle.map.proofs.set_trusted.Statement.{statement}
 use Rattle.map.proofs.set_trusted.Tie as tie
@@ -25,7 +26,9 @@ same-length : tie.Need-same-length
 same-length c = search needs
 
 returns-2 : tie.Need-returns-2
-returns-2 c = cc (segment-run trusted (c .before .before .before .before .before .before .before .before .args .n) (c .before .before .before .before .before .before .if1 .left))
+returns-2 c =
+    let all : c .before .before .before .before .before .before .before .before .args .n ≡ suc (c .before .before .before .before .before .before .before .before .args .n - 1) = omega arith in
+    rw all (rw (c .before .before .before .before .start-code .ensures, c .before .before .before .later-code .ensures) at (c .before .before .set-run .ensures))
 
 pub set-trusted-spec : {M : Type 1} → statement M
 set-trusted-spec =
