@@ -18,12 +18,20 @@ pub const RAM_BYTES: u16 = 4096;
 
 const BLOCK_BYTES: u16 = 8;
 
-// The block that an address from bot on lies in.
+// How many whole blocks lie from bot up to an address.
+pub fn whole_blocks(bot: RamByte, a: RamByte) -> u16
+    requires { ⌜ bot .0 ≤ a .0 ⌝ }
+    ensures { λ r. ⌜ r ≡ blockOf bot a ⌝ }
+{
+    (a.0 - bot.0) / BLOCK_BYTES
+}
+
+// The block that an address from bot on lies in: as many whole ones lie below it.
 pub fn block_of(bot: RamByte, a: RamByte) -> Block
     requires { ⌜ bot .0 ≤ a .0 ⌝ }
     ensures { λ r. ⌜ r ≡ block (blockOf bot a) ⌝ }
 {
-    Block((a.0 - bot.0) / BLOCK_BYTES)
+    Block(whole_blocks(bot, a))
 }
 
 // The first byte of a block.

@@ -10,7 +10,6 @@ use lib.Dec.{leb}
 use lib.ListN.{length, getD, drop, drop-of-length-le}
 use lib.Seq.{drop-cons}
 use borrow.Author.Tests.{lt-ltb, le-ltb, le-leb, lt-leb, ne-eqb}
-use Rattle.rules.specs.declared.Block.{Block}
 use Rattle.rules.specs.declared.FlashWord.{FlashWord}
 use Rattle.rules.specs.declared.Range.{Range}
 use Rattle.rules.specs.declared.Config.{Config}
@@ -18,7 +17,6 @@ use Rattle.rules.specs.declared.State.{State}
 use Rattle.rules.specs.Memory.{ramBytes, trusted, blockOf, blocks, mapBytesFor, mapBytes}
 use Rattle.rules.specs.Code.{emptyRange, ordered, apart, apartFrom, allApart}
 use Rattle.rules.specs.State.{multiples, botBelowTop, mapBelowHeap, heapBelowSafe, safeBelowTop, topInRam, jtInFlash, rangesOrdered, rangesApart, goodConfig, domainGood, boundGood, safepointerGood, goodState}
-use Rattle.rules.specs.Malloc.{block}
 use Rattle.laws.proofs.Map.{mapBytesFor-le}
 use Rattle.laws.proofs.Blocks.{block-small}
 use Rattle.laws.proofs.Tests.{left-false, right-false, left-true}
@@ -55,9 +53,9 @@ module _ (c : Config) where
   ranges-decide h = sym (config-parts ∙ left-true (boundsGood c) _ h)
 
 -- what the code takes for the map's length is that
-pub map-length : (c : Config) {b : Block} {m : ℕ} → b ≡ block (blockOf (c .bot) (c .top)) → m ≡ mapBytesFor (b .0) → m ≡ mapBytes c
+pub map-length : (c : Config) {n m : ℕ} → n ≡ blockOf (c .bot) (c .top) → m ≡ mapBytesFor n → m ≡ mapBytes c
 unfolding mapBytes blocks
-map-length c e h = h ∙ ap (λ (b : Block). mapBytesFor (b .0)) e
+map-length c e h = h ∙ ap mapBytesFor e
 
 -- the sum of bot and the map's length fits sixteen bits
 pub end-fits : (c : Config) → c .bot .0 < c .top .0 → c .top .0 ≤ ramBytes → c .bot .0 + mapBytes c < 65536

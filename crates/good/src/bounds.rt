@@ -35,7 +35,7 @@ pub fn in_order(config: Config) -> bool
     if config.top.0 <= config.bot.0 {
         return false;
     }
-    let blocks = address::block_of(config.bot, config.top);
-    let bytes = address::packing::map_bytes_for(blocks.0);
+    let blocks = address::whole_blocks(config.bot, config.top);
+    let bytes = address::packing::map_bytes_for(blocks);
     config.bot.0 + bytes <= config.heap.0
 }

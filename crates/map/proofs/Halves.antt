@@ -1,8 +1,10 @@
 -- The two codes of a map byte, by quotient and remainder. Here, as in the code, a code is one of 16 and a byte holds two.
 -- Assumes nothing.
-use Prim.Native.Nat.{ℕ, _+_, _*_, _/_, _%_, _<_}
-use mathlib.Core.Path.{_≡_, ap}
+use Prim.Native.Nat.{ℕ, _+_, _-_, _*_, _/_, _%_, _≤_, _<_}
+use mathlib.Core.Path.{_≡_, refl, sym, ap, _∙_}
+use mathlib.Core.Logic.{_≢_}
 use mathlib.Core.List.{List}
+use native.Mathlib.Decide.{ℕ-discrete}
 use native.Mathlib.Omega.{arith}
 use lib.ListN.{length, getD, set}
 use lib.Seq.{getD-set-same, set-set}
@@ -36,3 +38,34 @@ set-both bot ram k at low high place even inside byte small =
     let same : bot .0 + (k + 1) / 2 ≡ bot .0 + k / 2 = omega arith in
     let one : (k + 1) % 2 ≡ 1 = omega arith in
     rw (same, one, even, ← place, getD-set-same ram at (getD ram at 0 / 16 * 16 + low) 0 inside, set-set) (ap (set ram at) (omega arith))
+
+-- a byte whose codes are both v, and one of which only the first is
+module _ (bot : RamByte) (ram : List ℕ) (k at v : ℕ) (place : at ≡ mapByte bot k) (even : k % 2 ≡ 0) where
+  behind : at ≡ mapByte bot (k + 1)
+  unfolding mapByte perByte
+  behind = omega arith
+
+  pub next-half : getD ram at 0 < 256 → getD ram at 0 / 16 ≡ codeOf bot ram (k + 1)
+  next-half = high-half bot ram (k + 1) at behind (λ q. omega arith)
+
+  pub codes-alike : v < 16 → getD ram at 0 ≡ v * 16 + v → (codeOf bot ram k ≡ v) × (codeOf bot ram (k + 1) ≡ v)
+  codes-alike small e =
+      (sym (low-half bot ram k at place even) ∙ omega arith, sym (next-half (omega arith)) ∙ omega arith)
+
+  pub codes-differ : getD ram at 0 < 256 → getD ram at 0 ≢ v * 16 + v → codeOf bot ram k ≡ v → codeOf bot ram (k + 1) ≢ v
+  codes-differ byte n e f =
+      n (omega (arith, low-half bot ram k at place even, next-half byte))
+
+-- so the codes of a run of such bytes are all v
+pub codes-of-bytes : (bot : RamByte) (ram : List ℕ) (k at n v : ℕ) → at ≡ mapByte bot k → k % 2 ≡ 0 → v < 16
+    → ((j : ℕ) → at ≤ j → j < at + n → getD ram j 0 ≡ v * 16 + v) → (j : ℕ) → k ≤ j → j < k + n * 2 → codeOf bot ram j ≡ v
+unfolding mapByte perByte
+codes-of-bytes bot ram k at n v place even small same j l u =
+    let e : bot .0 + j / 2 ≡ at + (j - k) / 2 = omega arith in
+    let byte : getD ram (bot .0 + j / 2) 0 ≡ v * 16 + v = same (bot .0 + j / 2) (omega arith) (omega arith) in
+    elim (ℕ-discrete (j % 2) 0) [
+      | yes q ↦ codes-alike bot ram j (bot .0 + j / 2) v refl q small byte .0
+      | no q ↦
+          let one : j - 1 + 1 ≡ j = omega arith in
+          rw one at (codes-alike bot ram (j - 1) (bot .0 + j / 2) v (omega arith) (omega arith) small byte .1)
+    ]

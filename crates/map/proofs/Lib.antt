@@ -1,4 +1,5 @@
 -- Facts about the codes of this crate's file.
+pub mod Areas
 pub mod Halves
 pub mod Runs
 pub mod Within

@@ -1,71 +1,97 @@
 -- The steps of the loops over a run of blocks: what is left of a list of codes decides what RAM becomes.
 -- Assumes nothing.
-use Prim.Native.Nat.{ℕ, suc, _+_, _-_, _≤_, _<_}
-use mathlib.Core.Path.{_≡_, sym, _∙_}
+use Prim.Native.Nat.{ℕ, zero, suc, _+_, _-_, _*_, _/_, _%_, _≤_, _<_}
+use mathlib.Core.Path.{_≡_, refl, sym, ap, _∙_}
 use mathlib.Core.Bool.{true, false}
-use mathlib.Core.List.{List, _∷_}
+use mathlib.Core.List.{List, [], _∷_, _++_}
+use native.Mathlib.Nat.{add-zero}
 use native.Mathlib.Decide.{ℕ-discrete}
 use native.Mathlib.Omega.{arith}
 use mathlib.Core.Logic.{_≢_}
-use lib.ListN.{replicate}
+use lib.ListN.{length, getD, set, replicate, length-replicate, replicate-append-replicate}
+use lib.Dec.{ltb}
+use lib.Seq.{getD-set-same, getD-set-other}
+use borrow.Author.Tests.{ltb-true, ltb-false}
 use Rattle.rules.specs.declared.RamByte.{RamByte}
 use Rattle.rules.specs.declared.Config.{Config}
 use Rattle.rules.specs.declared.Found.the-variants.{At}
-use Rattle.rules.specs.Memory.{heapBlock, safeBlock, codeOf, setCode, setCodes, laterCode, freeCode, ownerOf, isFree}
-use Rattle.rules.specs.SetUp.{setUpCode, setUpCodes}
+use Rattle.rules.specs.Memory.{radix, perByte, heapBlock, safeBlock, mapByte, mapDigit, codeOf, setCode, setCodes, laterCode, freeCode, ownerOf, isFree}
+use Rattle.rules.specs.State.{ramByte}
 use Rattle.rules.specs.Malloc.{block, freeRun, firstRun}
-use Rattle.rules.specs.Free.{continued, segmentBlocks}
+use Rattle.rules.specs.Free.{segmentBlocks}
 use Rattle.laws.proofs.Tests.{byTest}
-use Rattle.laws.proofs.Search.{free-block, block-free, free-run, free-run-at, search-here, search-skip}
-use Rattle.laws.proofs.Segments.{continued-end, continued-more, continued-stop}
+use Rattle.laws.proofs.Codes.{laterCode-lt, ownerOf-le}
+use Rattle.laws.proofs.Map.{Bytes, code-lt, setCodes-append}
+use Rattle.laws.proofs.Search.{free-block, block-free, free-run, search-here, search-skip}
+use Rattle.laws.proofs.Segments.{segment-is}
+use Rattle.map.proofs.Halves.{set-both}
 
--- ---- writing n blocks from block k on, i blocks written
+-- ---- writing one code to a run of blocks
 
-module _ (bot : RamByte) (ram : List ℕ) (k n later : ℕ) where
-  pub run-first : (first : ℕ) → setCodes bot ram k (first ∷ replicate (n - 1) later) ≡ setCodes bot (setCode bot ram k first) (k + 1) (replicate (n - 1) later)
-  unfolding setCodes
-  run-first first = let next : suc k ≡ k + 1 = omega arith in rw (← next)
+-- the same places, counted from another byte on
+place-next : (b b′ : RamByte) (k k′ : ℕ) → mapByte b k ≡ mapByte b′ k′ → mapDigit k ≡ mapDigit k′
+    → (mapByte b (suc k) ≡ mapByte b′ (suc k′)) × (mapDigit (suc k) ≡ mapDigit (suc k′))
+unfolding mapByte mapDigit perByte
+place-next b b′ k k′ e f = (omega arith, omega arith)
 
-  pub run-next : (i : ℕ) → i < n
-      → setCodes bot ram (k + i) (replicate (n - i) later) ≡ setCodes bot (setCode bot ram (k + i) later) (k + (i + 1)) (replicate (n - (i + 1)) later)
-  unfolding setCodes
-  run-next i h =
-      let left : n - i ≡ suc (n - (i + 1)) = omega arith in
-      let next : suc (k + i) ≡ k + (i + 1) = omega arith in
-      rw (left, ← next)
+pub places-same : (b b′ : RamByte) (ram : List ℕ) (k k′ : ℕ) (vs : List ℕ) → mapByte b k ≡ mapByte b′ k′ → mapDigit k ≡ mapDigit k′
+    → setCodes b ram k vs ≡ setCodes b′ ram k′ vs
+unfolding setCodes setCode
+places-same b b′ ram k k′ [] e f = refl
+places-same b b′ ram k k′ (v ∷ vs) e f =
+    let (e′, f′) = place-next b b′ k k′ e f in
+    rw (e, f) (places-same b b′ _ (suc k) (suc k′) vs e′ f′)
 
-  pub run-end : (i : ℕ) → n ≤ i → setCodes bot ram (k + i) (replicate (n - i) later) ≡ ram
-  unfolding setCodes
-  run-end i h = let none : n - i ≡ 0 = omega arith in rw none
+pub from-even : (b bot : RamByte) (ram : List ℕ) (k : ℕ) (vs : List ℕ) → b .0 ≡ mapByte bot k → mapDigit k ≡ 0
+    → setCodes b ram 0 vs ≡ setCodes bot ram k vs
+unfolding mapByte mapDigit perByte
+from-even b bot ram k vs e f = places-same b bot ram 0 k vs (omega arith) (omega arith)
 
--- ---- counting a segment of domain d from block k on: total blocks, of which n are counted, and the next has code read
+-- whole bytes: the first, and those that are left
+pub bytes-next : (ram : List ℕ) (at left v : ℕ) → at < length ram → getD ram at 0 < 256 → v < 16
+    → setCodes (ramByte at) ram 0 (replicate (suc left * 2) v) ≡ setCodes (ramByte (at + 1)) (set ram at (v * 16 + v)) 0 (replicate (left * 2) v)
+unfolding setCodes mapByte mapDigit perByte
+bytes-next ram at left v inside byte small =
+    let two : suc left * 2 ≡ suc (suc (left * 2)) = omega arith in
+    let both = set-both (ramByte at) ram 0 at v v (omega arith) refl inside byte small in
+    rw (two, both) (sym (from-even (ramByte (at + 1)) (ramByte at) (setCode (ramByte at) (setCode (ramByte at) ram 0 v) 1 v) 2 (replicate (left * 2) v) (omega arith) refl))
 
-module _ (c : Config) (ram : List ℕ) (d k n end total : ℕ)
-    (so-far : total ≡ n + continued c ram d (k + n) (end - (k + n))) where
-  pub count-next : (read later : ℕ) → k + n < end → read ≡ codeOf (c .bot) ram (k + n) → later ≡ laterCode d → read ≡ later
-      → total ≡ n + 1 + continued c ram d (k + (n + 1)) (end - (k + (n + 1)))
-  count-next read later h r l e =
-      let left : end - (k + n) ≡ suc (end - (k + (n + 1))) = omega arith in
-      let next : suc (k + n) ≡ k + (n + 1) = omega arith in
-      so-far ∙ (rw (left, continued-more c ram d (k + n) (end - (k + (n + 1))) (sym r ∙ e ∙ l), next) (omega arith))
+pub bytes-stay : (ram : List ℕ) (at v : ℕ) → at < length ram → v < 256 → Bytes ram → Bytes (set ram at v)
+bytes-stay ram at v inside small bytes i =
+    elim (ℕ-discrete i at) [ yes e ↦ rw (e, getD-set-same ram at v 0 inside) small | no d ↦ rw getD-set-other (bytes i) ]
 
-  pub count-stop : (read later : ℕ) → k + n < end → read ≡ codeOf (c .bot) ram (k + n) → later ≡ laterCode d → read ≢ later → n ≡ total
-  count-stop read later h r l other =
-      let left : end - (k + n) ≡ suc (end - (k + (n + 1))) = omega arith in
-      let none : continued c ram d (k + n) (end - (k + n)) ≡ 0 =
-      rw left (continued-stop c ram d (k + n) (end - (k + (n + 1))) (λ e. other (r ∙ e ∙ sym l))) in
-      omega arith
+-- a run of n blocks: whole bytes, and a last block if n is odd
+pub run-even : (bot : RamByte) (ram : List ℕ) (k n v : ℕ) → n % 2 ≡ 0 → setCodes bot ram k (replicate (n / 2 * 2) v) ≡ setCodes bot ram k (replicate n v)
+run-even bot ram k n v even = let all : n / 2 * 2 ≡ n = omega arith in rw all
 
-  pub count-end : end ≤ k + n → n ≡ total
-  count-end h =
-      let left : end - (k + n) ≡ 0 = omega arith in
-      let none : continued c ram d (k + n) (end - (k + n)) ≡ 0 = rw left (continued-end c ram d (k + n)) in
-      omega arith
+pub run-odd : (bot : RamByte) (ram : List ℕ) (k n v : ℕ) → (n % 2 ≡ 0 → ⊥)
+    → setCode bot (setCodes bot ram k (replicate (n / 2 * 2) v)) (k + (n - 1)) v ≡ setCodes bot ram k (replicate n v)
+unfolding setCodes
+run-odd bot ram k n v odd =
+    let all : n ≡ n / 2 * 2 + 1 = omega arith in
+    let last : k + (n - 1) ≡ k + n / 2 * 2 = omega arith in
+    let parts : setCodes bot ram k (replicate (n / 2 * 2) v ++ replicate 1 v) ≡ setCode bot (setCodes bot ram k (replicate (n / 2 * 2) v)) (k + n / 2 * 2) v =
+    setCodes-append bot ram k (replicate (n / 2 * 2) v) (replicate 1 v) ∙ rw length-replicate in
+    rw last (sym parts ∙ ap (setCodes bot ram k) (replicate-append-replicate (n / 2 * 2) 1 v ∙ ap (λ (m : ℕ). replicate m v) (sym all)))
 
-pub count-first : (c : Config) (ram : List ℕ) (k : ℕ)
-    → segmentBlocks c ram k ≡ 1 + continued c ram (ownerOf (codeOf (c .bot) ram k)) (k + 1) (safeBlock c - (k + 1))
-unfolding segmentBlocks
-count-first c ram k = let next : suc k ≡ k + 1 = omega arith in rw next (omega arith)
+-- the first block, and those that are left
+pub run-first : (bot : RamByte) (ram : List ℕ) (k first : ℕ) (vs : List ℕ) → setCodes bot (setCode bot ram k first) (k + 1) vs ≡ setCodes bot ram k (first ∷ vs)
+unfolding setCodes
+run-first bot ram k first vs = let next : suc k ≡ k + 1 = omega arith in rw (← next)
+
+-- ---- counting a segment of n blocks from block k on: those before block from continue it, and so do m more
+
+pub later-lt : (bot : RamByte) (ram : List ℕ) (k later : ℕ) → later ≡ laterCode (ownerOf (codeOf bot ram k)) → later < radix
+later-lt bot ram k later e = rw e (laterCode-lt (ownerOf (codeOf bot ram k)) (ownerOf-le (codeOf bot ram k) (code-lt bot ram k)))
+
+pub segment-count : (c : Config) (ram : List ℕ) (k n from m later : ℕ) → later ≡ laterCode (ownerOf (codeOf (c .bot) ram k))
+    → k < from → k + n ≡ from + m → from + m ≤ safeBlock c → ((j : ℕ) → k < j → j < from → codeOf (c .bot) ram j ≡ later)
+    → ((j : ℕ) → from ≤ j → j < from + m → codeOf (c .bot) ram j ≡ later) → (from + m < safeBlock c → codeOf (c .bot) ram (from + m) ≢ later)
+    → n ≡ segmentBlocks c ram k
+segment-count c ram k n from m later code some all fits before more stop =
+    sym (segment-is c ram _ k n refl (omega arith) (omega arith)
+    (λ j l u. rw (← code) (byTest (ltb j from) (λ t. before j l (ltb-true j from t)) (λ t. more j (ltb-false j from t) (omega arith))))
+    (λ h. rw (← code, all) (stop (omega arith))))
 
 -- ---- looking for n free blocks in a row, of which run are found from block k on
 
@@ -73,39 +99,33 @@ module _ (c : Config) (ram : List ℕ) where
   not-free : (j : ℕ) → codeOf (c .bot) ram j ≢ freeCode → isFree c ram j ≡ false
   not-free j other = byTest (isFree c ram j) (λ t. absurd (other (free-block c ram j t .2))) (λ t. t)
 
-  pub run-longer : (k run : ℕ) → freeRun c ram k run ≡ true → heapBlock c ≤ k → k + run < safeBlock c → codeOf (c .bot) ram (k + run) ≡ freeCode
-      → freeRun c ram k (run + 1) ≡ true
-  run-longer k run free from to e =
-      free-run c ram (run + 1) k
-      (λ j l u. elim (ℕ-discrete j (k + run)) [
-        | yes q ↦ rw q (block-free c ram (k + run) (omega arith) to e)
-        | no d ↦ free-run-at c ram run k free j l (omega arith)
-      ])
+  pub codes-free : (k n : ℕ) → heapBlock c ≤ k → k + n ≤ safeBlock c → ((j : ℕ) → k ≤ j → j < k + n → codeOf (c .bot) ram j ≡ freeCode)
+      → freeRun c ram k n ≡ true
+  codes-free k n from to free = free-run c ram n k (λ j l u. block-free c ram j (omega arith) (omega arith) (free j l u))
 
   pub run-found : (n k : ℕ) → freeRun c ram k n ≡ true → k < safeBlock c → firstRun c ram n k (safeBlock c - k) ≡ At (block k)
   run-found n k free h = let left : safeBlock c - k ≡ suc (safeBlock c - (k + 1)) = omega arith in rw left (search-here c ram n k (safeBlock c - (k + 1)) free)
 
   -- the next start is behind a block that is not free
-  pub run-broken : (n k run : ℕ) → run < n → codeOf (c .bot) ram (k + run) ≢ freeCode
+  run-broken : (n k run : ℕ) → run < n → codeOf (c .bot) ram (k + run) ≢ freeCode
       → firstRun c ram n k (safeBlock c - k) ≡ firstRun c ram n (k + (run + 1)) (safeBlock c - (k + (run + 1)))
   run-broken n k run h other =
       let next : suc (k + run) ≡ k + (run + 1) = omega arith in
       let left : safeBlock c - k - (suc (k + run) - k) ≡ safeBlock c - (k + (run + 1)) = omega arith in
       search-skip c ram n k (safeBlock c - k) (k + run) (omega arith) (omega arith) (not-free (k + run) other) ∙ rw (left, next)
 
--- ---- set-up's codes, those of two places at a time
+  -- and behind m blocks that are not free
+  skip-used : (n m k : ℕ) → 0 < n → ((j : ℕ) → k ≤ j → j < k + m → codeOf (c .bot) ram j ≢ freeCode)
+      → firstRun c ram n k (safeBlock c - k) ≡ firstRun c ram n (k + m) (safeBlock c - (k + m))
+  skip-used n zero k p used = rw add-zero
+  skip-used n (suc m) k p used =
+      let on : k + 1 + m ≡ k + suc m = omega arith in
+      run-broken n k 0 p (rw add-zero (used k (omega arith) (omega arith)))
+      ∙ (rw on at (skip-used n m (k + 1) p (λ j l u. used j (omega arith) (omega arith))))
 
-pub set-up-next : (c : Config) (ram : List ℕ) (k places : ℕ) → k + 2 ≤ places
-    → setCodes (c .bot) ram k (setUpCodes c k (places - k))
-    ≡ setCodes (c .bot) (setCode (c .bot) (setCode (c .bot) ram k (setUpCode c k)) (k + 1) (setUpCode c (k + 1))) (k + 2)
-    (setUpCodes c (k + 2) (places - (k + 2)))
-unfolding setCodes setUpCodes
-set-up-next c ram k places h =
-    let left : places - k ≡ suc (suc (places - (k + 2))) = omega arith in
-    let one : suc k ≡ k + 1 = omega arith in
-    let two : suc (suc k) ≡ k + 2 = omega arith in
-    rw (left, ← one, ← two)
-
-pub set-up-end : (c : Config) (ram : List ℕ) (k places : ℕ) → places ≤ k → setCodes (c .bot) ram k (setUpCodes c k (places - k)) ≡ ram
-unfolding setCodes setUpCodes
-set-up-end c ram k places h = let none : places - k ≡ 0 = omega arith in rw none
+  pub run-used : (n k run m : ℕ) → run < n → 0 < m → ((j : ℕ) → k + run ≤ j → j < k + run + m → codeOf (c .bot) ram j ≢ freeCode)
+      → firstRun c ram n k (safeBlock c - k) ≡ firstRun c ram n (k + run + m) (safeBlock c - (k + run + m))
+  run-used n k run m h some used =
+      let on : k + (run + 1) + (m - 1) ≡ k + run + m = omega arith in
+      run-broken n k run h (used (k + run) (omega arith) (omega arith))
+      ∙ (rw on at (skip-used n (m - 1) (k + (run + 1)) (omega arith) (λ j l u. used j (omega arith) (omega arith))))

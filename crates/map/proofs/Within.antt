@@ -1,13 +1,14 @@
 -- What a good configuration tells the map's code: its areas lie from bot on, its blocks are few, and their codes lie in RAM.
 -- Assumes nothing.
-use Prim.Native.Nat.{ℕ, _*_, _≤_, _<_}
+use Prim.Native.Nat.{ℕ, _+_, _%_, _≤_, _<_}
 use mathlib.Core.Path.{_≡_}
 use mathlib.Core.Bool.{true}
 use native.Mathlib.Omega.{arith}
+use Rattle.rules.specs.declared.RamByte.{RamByte}
 use Rattle.rules.specs.declared.Config.{Config}
-use Rattle.rules.specs.Memory.{ramBytes, safeBlock, mapBytes, perByte, mapByte}
+use Rattle.rules.specs.Memory.{ramBytes, startOf, blockOf, dividedUp, blocks, safeBlock, mapBytes, mapBytesFor, perByte, mapByte}
 use Rattle.rules.specs.State.{goodConfig}
-use Rattle.laws.proofs.Good.{GoodConfig, goodConfig-facts, bot<heap, blocks≤ram, safeBlock≤blocks, place<heap, mapByte<heap}
+use Rattle.laws.proofs.Good.{GoodConfig, goodConfig-facts, bot<heap, blocks≤ram, safeBlock≤blocks, to-safe, block-fits, mapByte<heap}
 
 module _ (c : Config) (good : goodConfig c ≡ true) where
   facts : GoodConfig c
@@ -25,9 +26,18 @@ module _ (c : Config) (good : goodConfig c ≡ true) where
   pub safeBlock≤ram : safeBlock c ≤ ramBytes
   safeBlock≤ram = omega (arith, safeBlock≤blocks facts, blocks≤ram facts)
 
-  -- a place of the map lies in RAM, and so does a code of a block before the safe stack area
-  pub place<ram : (k : ℕ) → k < mapBytes c * perByte → mapByte (c .bot) k < ramBytes
-  place<ram k h = omega (arith, place<heap facts h, facts .heap≤safe, facts .safe≤top, facts .top≤ram)
-
+  -- a code of a block before the safe stack area lies in RAM
   pub code<ram : (k : ℕ) → k < safeBlock c → mapByte (c .bot) k < ramBytes
   code<ram k h = omega (arith, mapByte<heap facts {k = k} (omega (arith, safeBlock≤blocks facts)), facts .heap≤safe, facts .safe≤top, facts .top≤ram)
+
+  -- the bytes for the places before k lie in RAM
+  pub room : (k : ℕ) → k ≤ blocks c + blocks c % 2 → c .bot .0 + mapBytesFor k ≤ ramBytes
+  unfolding mapBytes mapBytesFor dividedUp perByte
+  room k h = omega (arith, facts .map≤heap, facts .heap≤safe, facts .safe≤top, facts .top≤ram)
+
+  -- a heap address lies in a block before the safe stack area, and the start of such a block is an address
+  pub block<safe : (a : RamByte) → c .heap .0 ≤ a .0 → a .0 < c .safe .0 → blockOf (c .bot) a < safeBlock c
+  block<safe a from to = to-safe facts a (omega (arith, bot≤heap)) to
+
+  pub start-fits : (k : ℕ) → k < safeBlock c → startOf (c .bot) k < 65536
+  start-fits k h = omega (arith, block-fits facts {k = k} (omega (arith, safeBlock≤blocks facts)), facts .top≤ram)

@@ -9,12 +9,10 @@ use lib.ListN.{length}
 use lib.Dec.{eqb, leb}
 use borrow.Author.Tests.{eq-eqb, ne-eqb, lt-ltb, le-ltb, le-leb, lt-leb, eqb-true, not-false, leb-false}
 use Rattle.rules.specs.declared.RamByte.{RamByte}
-use Rattle.rules.specs.declared.Block.{Block}
 use Rattle.rules.specs.declared.State.{State}
 use Rattle.rules.specs.declared.Answer.the-variants.{Done, Refused}
 use Rattle.rules.specs.declared.Refusal.the-variants.{WrongSize, BadState, PastRam, OtherOwner, AboveBound}
-use Rattle.rules.specs.Memory.{ramBytes, trusted, blockOf, blocks, mapByte, codeOf, ownerOf}
-use Rattle.rules.specs.Malloc.{block}
+use Rattle.rules.specs.Memory.{ramBytes, trusted, blockOf, blocks, mapByte}
 use Rattle.rules.specs.State.{goodState}
 use Rattle.rules.specs.Store.{ownerAt, storeAnswer}
 use Rattle.laws.proofs.Answers.{row-passed}
@@ -94,11 +92,6 @@ module _ (s : State) (ram : List ℕ) (a : RamByte) where
                     eq-eqb (ownerAt s ram a) (s .domain) h,
                     lt-leb (s .config .top .0) (a .0) to,
                   )
-
--- the owner, as the code reads it from the map
-pub owner-read : (s : State) (ram : List ℕ) (a : RamByte) (b : Block) (code owner : ℕ) → b ≡ block (blockOf (s .config .bot) a)
-    → code ≡ codeOf (s .config .bot) ram (b .0) → owner ≡ ownerOf code → owner ≡ ownerAt s ram a
-owner-read s ram a b code owner e f g = rw (g, f, e)
 
 -- the map byte of an address of the protected range
 pub map-byte-inside : (s : State) (a : RamByte) → goodState s ≡ true → s .config .bot .0 ≤ a .0 → a .0 < s .config .top .0

@@ -20,13 +20,13 @@ ghost use Rattle.operations.specs.ReturnRows.{callerOf};
 pub mod call_check;
 mod code_ranges;
 mod malloc_check;
-mod places;
 pub mod return_check;
 mod segment_check;
 mod states;
 mod store_check;
 
-use places::Place;
+use malloc_check::Place;
+use map::by_address;
 use rules::Answer;
 use rules::Config;
 use rules::FlashWord;
@@ -150,13 +150,12 @@ pub fn malloc(state: State, ram: &mut [u8], size: u16) -> Outcome
 {
     let place = malloc_check::room(state, ram, size);
     match place {
-        Place::At(k) => {
+        Place::At(start) => {
             let config = state.config;
             let n = address::blocks_for(size);
             let first = map::start_code(state.domain);
             let later = map::later_code(state.domain);
-            map::set_run(config.bot, ram, k, n, first, later);
-            let start = address::start_of(config.bot, k);
+            by_address::set_run(config.bot, ram, start, n, first, later);
             Outcome {
                 answer: Answer::Done(start.0),
                 state,
@@ -173,22 +172,19 @@ pub fn free(state: State, ram: &mut [u8], address: RamByte) -> Outcome
     requires { ⌜ (length (now ram) ≡ ramBytes) × (goodState state ≡ true) ⌝ }
     ensures { λ r. ⌜ Gives r (now (ram .exit)) (freeOf state (now (ram .entry)) address) ⌝ }
 {
-    let place = segment_check::segment_at(state, ram, address);
-    match place {
-        Place::At(k) => {
+    let answer = segment_check::segment_at(state, ram, address);
+    match answer {
+        Answer::Done(_) => {
             let config = state.config;
-            let freed = map::segment_blocks(config, ram, k);
+            let freed = by_address::segment_blocks(config, ram, address);
             let code = map::free_code();
-            map::set_run(config.bot, ram, k, freed, code, code);
+            by_address::set_run(config.bot, ram, address, freed, code, code);
             Outcome {
                 answer: Answer::Done(freed),
                 state,
             }
         }
-        Place::Refused(refusal) => Outcome {
-            answer: Answer::Refused(refusal),
-            state,
-        },
+        Answer::Refused(_) => Outcome { answer, state },
     }
 }
 
@@ -196,9 +192,9 @@ pub fn change(state: State, ram: &mut [u8], address: RamByte, domain: u8) -> Out
     requires { ⌜ (length (now ram) ≡ ramBytes) × (goodState state ≡ true) ⌝ }
     ensures { λ r. ⌜ Gives r (now (ram .exit)) (changeOf state (now (ram .entry)) address domain) ⌝ }
 {
-    let place = segment_check::segment_at(state, ram, address);
-    match place {
-        Place::At(k) => {
+    let answer = segment_check::segment_at(state, ram, address);
+    match answer {
+        Answer::Done(_) => {
             if map::TRUSTED <= domain {
                 return Outcome {
                     answer: Answer::Refused(Refusal::DomainAbove),
@@ -206,18 +202,15 @@ pub fn change(state: State, ram: &mut [u8], address: RamByte, domain: u8) -> Out
                 };
             }
             let config = state.config;
-            let changed = map::segment_blocks(config, ram, k);
+            let changed = by_address::segment_blocks(config, ram, address);
             let first = map::start_code(domain);
             let later = map::later_code(domain);
-            map::set_run(config.bot, ram, k, changed, first, later);
+            by_address::set_run(config.bot, ram, address, changed, first, later);
             Outcome {
                 answer: Answer::Done(changed),
                 state,
             }
         }
-        Place::Refused(refusal) => Outcome {
-            answer: Answer::Refused(refusal),
-            state,
-        },
+        Answer::Refused(_) => Outcome { answer, state },
     }
 }

@@ -1,14 +1,19 @@
-// Section 5, malloc: where its run lies, or which refusal it gets.
+// Section 5, malloc: where its run starts, or which refusal it gets.
 ghost use mathlib.Core.Path.{_≡_};
 ghost use mathlib.Core.Bool.{true};
 ghost use lib.ListN.{length};
 ghost use Rattle.rules.specs.Memory.{ramBytes};
 ghost use Rattle.rules.specs.State.{goodState};
 ghost use Rattle.operations.specs.Places.{RoomFor};
-use crate::places::Place;
-use rules::Found;
+use map::by_address::Run;
+use rules::RamByte;
 use rules::Refusal;
 use rules::State;
+
+pub enum Place {
+    At(RamByte),
+    Refused(Refusal),
+}
 
 pub fn room(state: State, ram: &[u8], size: u16) -> Place
     requires { ⌜ (length (now ram) ≡ ramBytes) × (goodState state ≡ true) ⌝ }
@@ -21,9 +26,9 @@ pub fn room(state: State, ram: &[u8], size: u16) -> Place
         return Place::Refused(Refusal::SizeZero);
     }
     let config = state.config;
-    let found = map::lowest_run(config, ram, address::blocks_for(size));
-    match found {
-        Found::At(k) => Place::At(k),
-        Found::Nowhere => Place::Refused(Refusal::NoRun),
+    let run = map::by_address::lowest_run(config, ram, address::blocks_for(size));
+    match run {
+        Run::At(start) => Place::At(start),
+        Run::Nowhere => Place::Refused(Refusal::NoRun),
     }
 }

@@ -30,8 +30,7 @@ pub fn answer(state: State, ram: &[u8], address: RamByte) -> Answer
         }
         return Answer::Done(0);
     }
-    let block = address::block_of(config.bot, address);
-    let owner = map::owner_of(map::code_of(config.bot, ram, block));
+    let owner = map::by_address::owner_at(config.bot, ram, address);
     if owner != state.domain {
         return Answer::Refused(Refusal::OtherOwner);
     }

@@ -9,14 +9,16 @@ use mathlib.Core.Bool.{_&&_}
 use mathlib.Core.List.{List, _∷_, _++_}
 use lib.ListN.{length, take, drop, replicate}
 use lib.Seq.{sets}
+use lib.Dec.{eqb}
 use Rattle.rules.specs.declared.RamByte.{RamByte}
 use Rattle.rules.specs.declared.FlashWord.{FlashWord}
 use Rattle.rules.specs.declared.Block.{Block}
 use Rattle.rules.specs.declared.Config.{Config}
 use Rattle.rules.specs.declared.State.{State}
 use Rattle.rules.specs.declared.Frame.{Frame}
+use Rattle.rules.specs.declared.Found.{Found}
 use Rattle.rules.specs.declared.Answer.{Answer}
-use Rattle.rules.specs.Memory.{ramBytes, startOf, blockOf, blocksFor, isMultiple, mapBytesFor, codeOf, setCode, setCodes, startCode, laterCode, freeCode, ownerOf, startsSegment}
+use Rattle.rules.specs.Memory.{ramBytes, startOf, blockOf, blocksFor, isMultiple, mapBytesFor, codeOf, setCodes, startCode, laterCode, freeCode, ownerOf, startsSegment}
 use Rattle.rules.specs.Code.{flashWord}
 use Rattle.rules.specs.State.{ramByte, multiples, botBelowTop, mapBelowHeap, heapBelowSafe, safeBelowTop, topInRam, jtInFlash, goodConfig, domainGood, boundGood, safepointerGood, goodState}
 use Rattle.rules.specs.Answers.{numberOf, valueOf, Given, Gives}
@@ -39,7 +41,7 @@ abbrev pub Only3 : {A B C : Type 0} → (A → B → C → Type 0) → Type 0
 Only3 {A} {B} {C} P =
     (r r′ : A) (x x′ : B) (y y′ : C) → P r x y → P r′ x′ y′ → (r ≡ r′) × (x ≡ x′) × (y ≡ y′)
 
-pub record Uniqueness : Type 0 where
+pub record Uniqueness : Type 1 where
   -- what a rule gives leaves one answer, state and RAM; what a function called from C gives leaves one answer, slot and RAM
   pub gives : (g : Given) → Only2 (λ r ram. Gives r ram g)
   pub givesToC : (g : GivenToC) → Only3 (λ r slot ram. GivesToC r slot ram g)
@@ -73,6 +75,7 @@ pub record Uniqueness : Type 0 where
   pub run : (printed : List ℕ → ℕ → List ℕ) (input out : List ℕ)
       → Only2 (λ r out′. (r ≡ length (printed input (length out))) × (out′ ≡ (printed input (length out)) ++ drop r out))
   -- crates/address
+  pub «whole_blocks» : (bot a : RamByte) → Only (λ r. r ≡ blockOf bot a)
   pub «block_of» : (bot a : RamByte) → Only (λ r. r ≡ block (blockOf bot a))
   pub «start_of» : (bot : RamByte) (k : Block) → Only (λ r. r ≡ ramByte (startOf bot (k .0)))
   pub further : (k : Block) (n : ℕ) → Only (λ r. r ≡ block (k .0 + n))
@@ -100,16 +103,18 @@ pub record Uniqueness : Type 0 where
   pub «good_config» : (config : Config) → Only (λ r. r ≡ goodConfig config)
   pub «good_run» : (state : State) → Only (λ r. r ≡ (domainGood state && boundGood state && safepointerGood state))
   pub «good_state» : (state : State) → Only (λ r. r ≡ goodState state)
-  -- crates/map
-  pub «code_of» : (bot : RamByte) (ram : List ℕ) (k : Block) → Only (λ r. r ≡ codeOf bot ram (k .0))
-  pub «set_code» : (bot : RamByte) (ram : List ℕ) (k : Block) (code : ℕ) → Only (λ ram′. ram′ ≡ setCode bot ram (k .0) code)
+  -- crates/map; `runOf` is where a search ended, by the first address of the run
   pub «owner_of» : (code : ℕ) → Only (λ r. r ≡ ownerOf code)
   pub «starts_segment» : (code : ℕ) → Only (λ r. r ≡ startsSegment code)
   pub «start_code» : (domain : ℕ) → Only (λ r. r ≡ startCode domain)
   pub «later_code» : (domain : ℕ) → Only (λ r. r ≡ laterCode domain)
   pub «free_code» : Only (λ r. r ≡ freeCode)
-  pub «set_run» : (bot : RamByte) (ram : List ℕ) (k : Block) (n first later : ℕ)
-      → Only (λ ram′. ram′ ≡ setCodes bot ram (k .0) (first ∷ replicate (n - 1) later))
-  pub «segment_blocks» : (config : Config) (ram : List ℕ) (k : Block) → Only (λ r. r ≡ segmentBlocks config ram (k .0))
-  pub «lowest_run» : (config : Config) (ram : List ℕ) (n : ℕ) → Only (λ r. r ≡ lowestRun config ram n)
   pub «set_up_map» : (config : Config) (ram : List ℕ) → Only (λ ram′. ram′ ≡ setUpRam config ram)
+  pub «code_at» : (bot : RamByte) (ram : List ℕ) (a : RamByte) → Only (λ r. r ≡ codeOf bot ram (blockOf bot a))
+  pub «owner_at» : (bot : RamByte) (ram : List ℕ) (a : RamByte) → Only (λ r. r ≡ ownerOf (codeOf bot ram (blockOf bot a)))
+  pub «is_first» : (bot a : RamByte) → Only (λ r. r ≡ eqb (startOf bot (blockOf bot a)) (a .0))
+  pub «segment_blocks» : (config : Config) (ram : List ℕ) (a : RamByte) → Only (λ r. r ≡ segmentBlocks config ram (blockOf (config .bot) a))
+  pub «set_run» : (bot : RamByte) (ram : List ℕ) (a : RamByte) (n first later : ℕ)
+      → Only (λ ram′. ram′ ≡ setCodes bot ram (blockOf bot a) (first ∷ replicate (n - 1) later))
+  pub «lowest_run» : (Run : Type 0) (runOf : RamByte → Found → Run) (config : Config) (ram : List ℕ) (n : ℕ)
+      → Only (λ r. r ≡ runOf (config .bot) (lowestRun config ram n))

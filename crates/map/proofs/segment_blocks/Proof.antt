@@ -1,100 +1,136 @@
 -- `map::segment_blocks` meets its contract. Assumes nothing.
-use Prim.Native.Nat.{_+_, _-_, _≤_}
-use mathlib.Core.Path.{_≡_, ap}
+use Prim.Native.Nat.{_+_}
+use mathlib.Core.Path.{_≡_, sym, ap, _∙_}
+use native.Mathlib.Nat.{add-zero}
 use native.Mathlib.Omega.{arith}
 use Rattle.rules.specs.declared.Block.{Block}
-use Rattle.rules.specs.Memory.{ramBytes, safeBlock, codeOf, laterCode, ownerOf}
-use Rattle.rules.specs.Free.{continued, segmentBlocks}
+use Rattle.rules.specs.Memory.{perByte, mapDigit, safeBlock, laterCode, ownerOf}
 use Rattle.laws.proofs.Codes.{ownerOf-le}
+use Rattle.laws.proofs.Good.{goodConfig-facts, safeBlock≤blocks}
 use Rattle.laws.proofs.Map.{code-lt}
-use Rattle.map.proofs.Runs.{count-first, count-next, count-stop, count-end}
-use Rattle.map.proofs.Within.{bot≤safe, safeBlock≤ram, code<ram}
+use Rattle.map.proofs.Runs.{later-lt, segment-count}
+use Rattle.map.proofs.Within.{bot≤safe, safeBlock≤ram, code<ram, room}
 use borrow.Author.Needs.{needs}
 use Rattle.map.proofs.segment_blocks.Statement.{statement}
 use Rattle.map.proofs.segment_blocks.Tie as tie
 
-abbrev Inv-loop : tie.InvT-loop
-Inv-loop config ram k end later n₀ n =
-    (end .0 ≡ safeBlock config) × (safeBlock config ≤ ramBytes) × (1 ≤ n) × (k .0 + n ≤ safeBlock config)
-    × (later ≡ laterCode (ownerOf (codeOf (config .bot) ram (k .0))))
-    × (segmentBlocks config ram (k .0)
-    ≡ n + continued config ram (ownerOf (codeOf (config .bot) ram (k .0))) (k .0 + n) (safeBlock config - (k .0 + n)))
-
-abbrev μ-loop : tie.MeasureT-loop
-μ-loop config ram k end later n₀ n = end .0 - n
-
-block-of-requires : tie.Need-block-of-requires Inv-loop μ-loop
+block-of-requires : tie.Need-block-of-requires
 block-of-requires c κs = bot≤safe _ (c .before .pre .1 .0)
 
-code-of-requires : tie.Need-code-of-requires Inv-loop μ-loop
+code-of-requires : tie.Need-code-of-requires
 code-of-requires c κs = (c .before .before .pre .0, code<ram _ (c .before .before .pre .1 .0) _ (c .before .before .pre .1 .1))
 
-owner-of-requires : tie.Need-owner-of-requires Inv-loop μ-loop
+owner-of-requires : tie.Need-owner-of-requires
 owner-of-requires c κs = search needs
 
-later-code-requires : tie.Need-later-code-requires Inv-loop μ-loop
+later-code-requires : tie.Need-later-code-requires
 later-code-requires c κs = rw (c .owner-of .ensures) (ownerOf-le _ (rw (c .before .code-of .ensures) (code-lt (c .before .before .before .before .args .config .bot) (c .before .before .before .before .args .ram .now) (c .before .before .before .before .args .k .0))))
 
-loop-holds : tie.Need-loop-holds Inv-loop μ-loop
+further-requires : tie.Need-further-requires
+further-requires c κs = omega (arith, c .before .before .before .before .before .pre .1 .1, safeBlock≤ram (c .before .before .before .before .before .args .config) (c .before .before .before .before .before .pre .1 .0))
+
+sub-blocks-alike : tie.Need-sub-blocks-alike
 unfolding safeBlock
-loop-holds c = (
-  ap (λ (b : Block). b .0) (c .before .before .before .block-of .ensures),
-  safeBlock≤ram _ (c .before .before .before .before .before .pre .1 .0),
-  omega arith,
-  omega (arith, c .before .before .before .before .before .pre .1 .1),
-  cc,
-  count-first (c .before .before .before .before .before .args .config) (c .before .before .before .before .before .args .ram .now) (c .before .before .before .before .before .args .k .0),
-)
+sub-blocks-alike c = rw (c .before .before .before .further .ensures, c .before .before .before .before .before .before .before .block-of .ensures) (omega (arith, c .before .before .before .before .before .before .before .before .before .pre .1 .1))
 
-add-if1 : tie.Need-add-if1 Inv-loop μ-loop
-add-if1 c = omega arith
+blocks-alike-requires : tie.Need-blocks-alike-requires
+unfolding safeBlock mapDigit perByte
+blocks-alike-requires c κs =
+    let end : c .before .before .before .before .before .before .before .block-of .result .0 ≡ safeBlock (c .before .before .before .before .before .before .before .before .before .args .config) = ap (λ (b : Block). b .0) (c .before .before .before .before .before .before .before .block-of .ensures) in
+    let next : c .before .before .before .further .result .0 ≡ c .before .before .before .before .before .before .before .before .before .args .k .0 + 1 = ap (λ (b : Block). b .0) (c .before .before .before .further .ensures) in
+    (c .before .before .before .before .before .before .before .before .before .pre .0, (c .before .if1 .taken, (room (c .before .before .before .before .before .before .before .before .before .args .config) (c .before .before .before .before .before .before .before .before .before .pre .1 .0) _ (omega (arith, c .before .before .before .before .before .before .before .before .before .pre .1 .1, safeBlock≤blocks (goodConfig-facts (c .before .before .before .before .before .before .before .before .before .args .config) (c .before .before .before .before .before .before .before .before .before .pre .1 .0)))), later-lt (c .before .before .before .before .before .before .before .before .before .args .config .bot) (c .before .before .before .before .before .before .before .before .before .args .ram .now) (c .before .before .before .before .before .before .before .before .before .args .k .0) _ (c .before .before .before .before .later-code .ensures ∙ ap laterCode (c .before .before .before .before .before .owner-of .ensures ∙ ap ownerOf (c .before .before .before .before .before .before .code-of .ensures))))))
 
-further-requires : tie.Need-further-requires Inv-loop μ-loop
-further-requires c κs = search needs
+add-result : tie.Need-add-result
+unfolding safeBlock
+add-result c =
+    let end : c .before .before .before .before .before .before .before .before .block-of .result .0 ≡ safeBlock (c .before .before .before .before .before .before .before .before .before .before .args .config) = ap (λ (b : Block). b .0) (c .before .before .before .before .before .before .before .before .block-of .ensures) in
+    omega (arith, safeBlock≤ram (c .before .before .before .before .before .before .before .before .before .before .args .config) (c .before .before .before .before .before .before .before .before .before .before .pre .1 .0))
 
-code-of-requires-2 : tie.Need-code-of-requires-2 Inv-loop μ-loop
-code-of-requires-2 c κs = (c .before .before .before .before .before .before .before .before .before .before .pre .0, rw (c .further .ensures) (code<ram _ (c .before .before .before .before .before .before .before .before .before .before .pre .1 .0) _ (omega arith)))
-
-returns : tie.Need-returns Inv-loop μ-loop
+returns : tie.Need-returns
+unfolding safeBlock
 returns c =
-    count-stop _ _ _ _ _ _ _ (c .before .before .before .before .before .before .loop .inv .5) _ _ (omega arith) (rw (c .before .before .further .ensures) at (c .before .code-of2 .ensures)) (c .before .before .before .before .before .before .loop .inv .4) (c .if2 .taken)
+    let end : c .before .before .before .before .before .before .before .before .block-of .result .0 ≡ safeBlock (c .before .before .before .before .before .before .before .before .before .before .args .config) = ap (λ (b : Block). b .0) (c .before .before .before .before .before .before .before .before .block-of .ensures) in
+    let next : c .before .before .before .before .further .result .0 ≡ c .before .before .before .before .before .before .before .before .before .before .args .k .0 + 1 = ap (λ (b : Block). b .0) (c .before .before .before .before .further .ensures) in
+    segment-count (c .before .before .before .before .before .before .before .before .before .before .args .config) (c .before .before .before .before .before .before .before .before .before .before .args .ram .now) (c .before .before .before .before .before .before .before .before .before .before .args .k .0) (1 + c .blocks-alike .result) (c .before .before .before .before .further .result .0) (c .blocks-alike .result) (c .before .before .before .before .before .later-code .result)
+    (c .before .before .before .before .before .later-code .ensures ∙ ap laterCode (c .before .before .before .before .before .before .owner-of .ensures ∙ ap ownerOf (c .before .before .before .before .before .before .before .code-of .ensures))) (omega arith) (omega arith) (omega (arith, c .before .before .before .before .before .before .before .before .before .before .pre .1 .1)) (λ j l u. absurd (omega arith)) (c .blocks-alike .ensures .1 .0) (λ h. c .blocks-alike .ensures .1 .1 (omega arith))
 
-add-n : tie.Need-add-n Inv-loop μ-loop
-add-n c = search needs
+returns-2 : tie.Need-returns-2
+unfolding safeBlock
+returns-2 c =
+    let end : c .before .before .before .before .before .before .before .before .block-of .result .0 ≡ safeBlock (c .before .before .before .before .before .before .before .before .before .before .args .config) = ap (λ (b : Block). b .0) (c .before .before .before .before .before .before .before .before .block-of .ensures) in
+    let next : c .before .before .before .before .further .result .0 ≡ c .before .before .before .before .before .before .before .before .before .before .args .k .0 + 1 = ap (λ (b : Block). b .0) (c .before .before .before .before .further .ensures) in
+    segment-count (c .before .before .before .before .before .before .before .before .before .before .args .config) (c .before .before .before .before .before .before .before .before .before .before .args .ram .now) (c .before .before .before .before .before .before .before .before .before .before .args .k .0) 1 (c .before .before .before .before .further .result .0) 0 (c .before .before .before .before .before .later-code .result)
+    (c .before .before .before .before .before .later-code .ensures ∙ ap laterCode (c .before .before .before .before .before .before .owner-of .ensures ∙ ap ownerOf (c .before .before .before .before .before .before .before .code-of .ensures))) (omega arith) (omega arith) (omega arith) (λ j l u. absurd (omega arith)) (λ j l u. absurd (omega arith)) (λ h. absurd (omega arith))
 
-loop-less : tie.Need-loop-less Inv-loop μ-loop
-loop-less c = search needs
+code-of-requires-2 : tie.Need-code-of-requires-2
+unfolding safeBlock
+code-of-requires-2 c κs =
+    let end : c .before .before .before .before .before .before .before .before .block-of .result .0 ≡ safeBlock (c .before .before .before .before .before .before .before .before .before .before .args .config) = ap (λ (b : Block). b .0) (c .before .before .before .before .before .before .before .before .block-of .ensures) in
+    let next : c .before .before .before .before .further .result .0 ≡ c .before .before .before .before .before .before .before .before .before .before .args .k .0 + 1 = ap (λ (b : Block). b .0) (c .before .before .before .before .further .ensures) in
+    (c .before .before .before .before .before .before .before .before .before .before .pre .0, code<ram (c .before .before .before .before .before .before .before .before .before .before .args .config) (c .before .before .before .before .before .before .before .before .before .before .pre .1 .0) _ (omega (arith, c .before .before .before .before .before .before .before .before .before .before .pre .1 .1)))
 
-loop-again : tie.Need-loop-again Inv-loop μ-loop
-loop-again c =
-    let inv = c .before .before .before .before .before .before .loop .inv in (
-      inv .0,
-      inv .1,
-      omega arith,
-      omega arith,
-      inv .4,
-      count-next _ _ _ _ _ _ _ (inv .5) _ _ (omega arith) (rw (c .before .before .further .ensures) at (c .before .code-of2 .ensures)) (inv .4) (c .if2 .left),
-    )
+returns-3 : tie.Need-returns-3
+unfolding safeBlock
+returns-3 c =
+    let next : c .before .before .before .before .before .before .further .result .0 ≡ c .before .before .before .before .before .before .before .before .before .before .before .before .args .k .0 + 1 = ap (λ (b : Block). b .0) (c .before .before .before .before .before .before .further .ensures) in
+    segment-count (c .before .before .before .before .before .before .before .before .before .before .before .before .args .config) (c .before .before .before .before .before .before .before .before .before .before .before .before .args .ram .now) (c .before .before .before .before .before .before .before .before .before .before .before .before .args .k .0) 1 (c .before .before .before .before .before .before .further .result .0) 0 (c .before .before .before .before .before .before .before .later-code .result)
+    (c .before .before .before .before .before .before .before .later-code .ensures ∙ ap laterCode (c .before .before .before .before .before .before .before .before .owner-of .ensures ∙ ap ownerOf (c .before .before .before .before .before .before .before .before .before .code-of .ensures))) (omega arith) (omega arith) (omega (arith, c .before .before .before .before .before .before .before .before .before .before .before .before .pre .1 .1)) (λ j l u. absurd (omega arith)) (λ j l u. absurd (omega arith)) (λ h. rw add-zero (λ e. omega (arith, c .before .code-of2 .ensures)))
 
-returns-2 : tie.Need-returns-2 Inv-loop μ-loop
-returns-2 c = count-end _ _ _ _ _ _ _ (c .before .before .before .loop .inv .5) (omega arith)
+further-requires-2 : tie.Need-further-requires-2
+further-requires-2 c κs =
+    let next : c .before .before .before .before .before .before .further .result .0 ≡ c .before .before .before .before .before .before .before .before .before .before .before .before .args .k .0 + 1 = ap (λ (b : Block). b .0) (c .before .before .before .before .before .before .further .ensures) in
+    omega (arith, c .before .before .before .before .before .before .before .before .before .before .before .before .pre .1 .1, safeBlock≤ram (c .before .before .before .before .before .before .before .before .before .before .before .before .args .config) (c .before .before .before .before .before .before .before .before .before .before .before .before .pre .1 .0))
+
+sub-blocks-alike-2 : tie.Need-sub-blocks-alike-2
+unfolding safeBlock
+sub-blocks-alike-2 c =
+    let end : c .before .before .before .before .before .before .before .before .before .before .before .before .block-of .result .0 ≡ safeBlock (c .before .before .before .before .before .before .before .before .before .before .before .before .before .before .args .config) = ap (λ (b : Block). b .0) (c .before .before .before .before .before .before .before .before .before .before .before .before .block-of .ensures) in
+    let next : c .before .before .before .before .before .before .before .before .further .result .0 ≡ c .before .before .before .before .before .before .before .before .before .before .before .before .before .before .args .k .0 + 1 = ap (λ (b : Block). b .0) (c .before .before .before .before .before .before .before .before .further .ensures) in
+    rw (c .before .further2 .ensures) (omega (arith, c .before .before .before .before .before .before .before .before .before .before .before .before .before .before .pre .1 .1))
+
+blocks-alike-requires-2 : tie.Need-blocks-alike-requires-2
+unfolding safeBlock mapDigit perByte
+blocks-alike-requires-2 c κs =
+    let end : c .before .before .before .before .before .before .before .before .before .before .before .before .block-of .result .0 ≡ safeBlock (c .before .before .before .before .before .before .before .before .before .before .before .before .before .before .args .config) = ap (λ (b : Block). b .0) (c .before .before .before .before .before .before .before .before .before .before .before .before .block-of .ensures) in
+    let next : c .before .before .before .before .before .before .before .before .further .result .0 ≡ c .before .before .before .before .before .before .before .before .before .before .before .before .before .before .args .k .0 + 1 = ap (λ (b : Block). b .0) (c .before .before .before .before .before .before .before .before .further .ensures) in
+    let even : c .before .further2 .result .0 ≡ c .before .before .before .before .before .before .before .before .further .result .0 + 1 = ap (λ (b : Block). b .0) (c .before .further2 .ensures) in
+    (c .before .before .before .before .before .before .before .before .before .before .before .before .before .before .pre .0, (omega (arith, c .before .before .before .before .before .before .if1 .left), (room (c .before .before .before .before .before .before .before .before .before .before .before .before .before .before .args .config) (c .before .before .before .before .before .before .before .before .before .before .before .before .before .before .pre .1 .0) _ (omega (arith, c .before .before .before .before .before .before .before .before .before .before .before .before .before .before .pre .1 .1, safeBlock≤blocks (goodConfig-facts (c .before .before .before .before .before .before .before .before .before .before .before .before .before .before .args .config) (c .before .before .before .before .before .before .before .before .before .before .before .before .before .before .pre .1 .0)))), later-lt (c .before .before .before .before .before .before .before .before .before .before .before .before .before .before .args .config .bot) (c .before .before .before .before .before .before .before .before .before .before .before .before .before .before .args .ram .now) (c .before .before .before .before .before .before .before .before .before .before .before .before .before .before .args .k .0) _ (c .before .before .before .before .before .before .before .before .before .later-code .ensures ∙ ap laterCode (c .before .before .before .before .before .before .before .before .before .before .owner-of .ensures ∙ ap ownerOf (c .before .before .before .before .before .before .before .before .before .before .before .code-of .ensures))))))
+
+add-result-2 : tie.Need-add-result-2
+unfolding safeBlock
+add-result-2 c =
+    let end : c .before .before .before .before .before .before .before .before .before .before .before .before .before .block-of .result .0 ≡ safeBlock (c .before .before .before .before .before .before .before .before .before .before .before .before .before .before .before .args .config) = ap (λ (b : Block). b .0) (c .before .before .before .before .before .before .before .before .before .before .before .before .before .block-of .ensures) in
+    omega (arith, safeBlock≤ram (c .before .before .before .before .before .before .before .before .before .before .before .before .before .before .before .args .config) (c .before .before .before .before .before .before .before .before .before .before .before .before .before .before .before .pre .1 .0))
+
+returns-4 : tie.Need-returns-4
+unfolding safeBlock
+returns-4 c =
+    let end : c .before .before .before .before .before .before .before .before .before .before .before .before .before .block-of .result .0 ≡ safeBlock (c .before .before .before .before .before .before .before .before .before .before .before .before .before .before .before .args .config) = ap (λ (b : Block). b .0) (c .before .before .before .before .before .before .before .before .before .before .before .before .before .block-of .ensures) in
+    let next : c .before .before .before .before .before .before .before .before .before .further .result .0 ≡ c .before .before .before .before .before .before .before .before .before .before .before .before .before .before .before .args .k .0 + 1 = ap (λ (b : Block). b .0) (c .before .before .before .before .before .before .before .before .before .further .ensures) in
+    let even : c .before .before .further2 .result .0 ≡ c .before .before .before .before .before .before .before .before .before .further .result .0 + 1 = ap (λ (b : Block). b .0) (c .before .before .further2 .ensures) in
+    segment-count (c .before .before .before .before .before .before .before .before .before .before .before .before .before .before .before .args .config) (c .before .before .before .before .before .before .before .before .before .before .before .before .before .before .before .args .ram .now) (c .before .before .before .before .before .before .before .before .before .before .before .before .before .before .before .args .k .0) (2 + c .blocks-alike2 .result) (c .before .before .further2 .result .0) (c .blocks-alike2 .result) (c .before .before .before .before .before .before .before .before .before .before .later-code .result)
+    (c .before .before .before .before .before .before .before .before .before .before .later-code .ensures ∙ ap laterCode (c .before .before .before .before .before .before .before .before .before .before .before .owner-of .ensures ∙ ap ownerOf (c .before .before .before .before .before .before .before .before .before .before .before .before .code-of .ensures))) (omega arith) (omega arith) (omega (arith, c .before .before .before .before .before .before .before .before .before .before .before .before .before .before .before .pre .1 .1))
+    (λ j l u. let here : j ≡ c .before .before .before .before .before .before .before .before .before .further .result .0 = omega arith in rw here (sym (c .before .before .before .before .code-of2 .ensures) ∙ c .before .before .before .if3 .left))
+    (c .blocks-alike2 .ensures .1 .0) (λ h. c .blocks-alike2 .ensures .1 .1 (omega arith))
 
 pub segment-blocks-spec : {M : Type 1} → statement M
 segment-blocks-spec =
     tie.close
     (tie.spec
-    Inv-loop
-    μ-loop
     block-of-requires
     code-of-requires
     owner-of-requires
     later-code-requires
-    loop-holds
-    add-if1
     further-requires
-    code-of-requires-2
+    sub-blocks-alike
+    blocks-alike-requires
+    add-result
     returns
-    add-n
-    loop-less
-    loop-again
-    returns-2)
+    returns-2
+    code-of-requires-2
+    returns-3
+    further-requires-2
+    sub-blocks-alike-2
+    blocks-alike-requires-2
+    add-result-2
+    returns-4)

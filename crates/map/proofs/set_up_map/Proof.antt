@@ -1,143 +1,82 @@
 -- `map::set_up_map` meets its contract. Assumes nothing.
-use Prim.Native.Nat.{_+_, _-_, _*_, _%_, _<_, _≤_}
-use native.Mathlib.Nat.{sub-zero}
-use mathlib.Core.Path.{_≡_, refl, sym, _∙_}
+use mathlib.Core.Path.{_∙_}
 use native.Mathlib.Omega.{arith}
-use lib.ListN.{length, set}
-use Rattle.rules.specs.Memory.{radix, blocks, mapBytes, perByte, setCode, setCodes}
-use Rattle.rules.specs.SetUp.{setUpCode, setUpCodes, setUpRam}
-use Rattle.laws.proofs.Good.{goodConfig-facts, blocks≤ram}
-use Rattle.laws.proofs.Codes.{setUpCode-lt}
-use Rattle.laws.proofs.Map.{Bytes, mapBytesFor-le, length-setCode, setCode-bytes}
-use Rattle.map.proofs.Halves.{set-both}
-use Rattle.map.proofs.Runs.{set-up-next, set-up-end}
-use Rattle.map.proofs.Within.{bot≤top, place<ram}
+use Rattle.rules.specs.Memory.{radix, blocks, heapBlock, safeBlock, freeCode}
+use Rattle.laws.proofs.Good.{goodConfig-facts, heapBlock≤safeBlock, safeBlock≤blocks}
+use Rattle.map.proofs.Areas.{set-up-areas}
+use Rattle.map.proofs.Within.{bot≤heap, bot≤safe, bot≤top, room}
 use borrow.Author.Needs.{needs}
 use Rattle.map.proofs.set_up_map.Statement.{statement}
 use Rattle.map.proofs.set_up_map.Tie as tie
 
-abbrev Inv-loop : tie.InvT-loop
-Inv-loop config ram₀ places k₀ ram k =
-    (places ≡ mapBytes config * perByte) × (places < 65536) × (k .0 ≤ places) × (k .0 % 2 ≡ 0) × (length ram ≡ length ram₀) × Bytes ram
-    × (setUpRam config ram₀ ≡ setCodes (config .bot) ram (k .0) (setUpCodes config (k .0) (places - k .0)))
+block-of-requires : tie.Need-block-of-requires
+block-of-requires c κs = bot≤heap _ (c .before .pre .1)
 
-abbrev μ-loop : tie.MeasureT-loop
-μ-loop config ram₀ places k₀ ram k = places - k .0
+block-of-requires-2 : tie.Need-block-of-requires-2
+block-of-requires-2 c κs = bot≤safe _ (c .before .before .pre .1)
 
-block-of-requires : tie.Need-block-of-requires Inv-loop μ-loop
-block-of-requires c κs = bot≤top _ (c .before .pre .1)
+block-of-requires-3 : tie.Need-block-of-requires-3
+block-of-requires-3 c κs = bot≤top _ (c .before .before .before .pre .1)
 
-map-bytes-for-requires : tie.Need-map-bytes-for-requires Inv-loop μ-loop
-map-bytes-for-requires c κs = search needs
-
-mul-places : tie.Need-mul-places Inv-loop μ-loop
-unfolding blocks
-mul-places c =
-    rw (c .map-bytes-for .ensures, c .before .block-of .ensures)
-    (omega (arith, mapBytesFor-le (blocks (c .before .before .before .args .config)), blocks≤ram (goodConfig-facts (c .before .before .before .args .config) (c .before .before .before .pre .1))))
-
-first-block-requires : tie.Need-first-block-requires Inv-loop μ-loop
+first-block-requires : tie.Need-first-block-requires
 first-block-requires c κs = search needs
 
-loop-holds : tie.Need-loop-holds Inv-loop μ-loop
-unfolding mapBytes blocks perByte setUpRam
-loop-holds c =
-    let bytes : c .before .map-bytes-for .result ≡ mapBytes (c .before .before .before .before .args .config) = rw (c .before .before .block-of .ensures) at (c .before .map-bytes-for .ensures) in
-    let few : mapBytes (c .before .before .before .before .args .config) * 2 < 65536 =
-    omega (arith, mapBytesFor-le (blocks (c .before .before .before .before .args .config)), blocks≤ram (goodConfig-facts (c .before .before .before .before .args .config) (c .before .before .before .before .pre .1))) in
-    rw (c .first-block .ensures, bytes, sub-zero) (refl, few, omega arith, refl, refl, λ i. c .before .before .before .slice-known .given i .fits, refl)
+set-trusted-requires : tie.Need-set-trusted-requires
+unfolding heapBlock
+set-trusted-requires c κs =
+    let g = goodConfig-facts _ (c .before .before .before .before .before .before .pre .1) in
+    rw (c .first-block .ensures, c .before .before .before .before .block-of .ensures) (c .before .before .before .before .before .before .pre .0, room _ (c .before .before .before .before .before .before .pre .1) _ (omega (arith, heapBlock≤safeBlock g, safeBlock≤blocks g)))
 
-set-up-code-requires : tie.Need-set-up-code-requires Inv-loop μ-loop
-set-up-code-requires c κs = search needs
+sub-fill : tie.Need-sub-fill
+unfolding heapBlock safeBlock
+sub-fill c = rw (c .before .before .before .before .before .before .before .before .before .before .block-of .ensures, c .before .before .before .before .before .before .before .before .before .block-of2 .ensures) (heapBlock≤safeBlock (goodConfig-facts _ (c .before .before .before .before .before .before .before .before .before .before .before .before .pre .1)))
 
-further-requires : tie.Need-further-requires Inv-loop μ-loop
-further-requires c κs = search needs
+fill-requires : tie.Need-fill-requires
+unfolding heapBlock safeBlock radix
+fill-requires c κs =
+    let g = goodConfig-facts _ (c .before .before .before .before .before .before .before .before .before .before .before .before .pre .1) in
+    rw (c .before .before .before .before .before .before .before .before .before .before .block-of .ensures, c .before .before .before .before .before .before .before .before .before .block-of2 .ensures) (c .before .before .before .before .before .set-trusted .kept .1 .0 ∙ c .before .before .before .before .before .before .before .before .before .before .before .before .pre .0, (room _ (c .before .before .before .before .before .before .before .before .before .before .before .before .pre .1) _ (omega (arith, heapBlock≤safeBlock g, safeBlock≤blocks g)), omega arith))
 
-set-up-code-requires-2 : tie.Need-set-up-code-requires-2 Inv-loop μ-loop
-set-up-code-requires-2 c κs = search needs
+sub-set-trusted : tie.Need-sub-set-trusted
+unfolding safeBlock blocks
+sub-set-trusted c = rw (c .before .before .before .before .before .before .before .before .before .before .before .before .before .before .before .block-of2 .ensures, c .before .before .before .before .before .before .before .before .before .before .before .before .before .before .block-of3 .ensures) (safeBlock≤blocks (goodConfig-facts _ (c .before .before .before .before .before .before .before .before .before .before .before .before .before .before .before .before .before .before .pre .1)))
 
-map-byte-requires : tie.Need-map-byte-requires Inv-loop μ-loop
-unfolding perByte
-map-byte-requires c κs = place<ram _ (c .before .before .before .before .before .before .before .before .before .before .pre .1) _ (omega arith)
+set-trusted-requires-2 : tie.Need-set-trusted-requires-2
+unfolding safeBlock blocks
+set-trusted-requires-2 c κs =
+    let g = goodConfig-facts _ (c .before .before .before .before .before .before .before .before .before .before .before .before .before .before .before .before .before .before .pre .1) in
+    rw (c .before .before .before .before .before .before .before .before .before .before .before .before .before .before .before .block-of2 .ensures, c .before .before .before .before .before .before .before .before .before .before .before .before .before .before .block-of3 .ensures) (c .before .before .before .before .before .fill .kept .1 .0 ∙ c .before .before .before .before .before .before .before .before .before .before .before .set-trusted .kept .1 .0 ∙ c .before .before .before .before .before .before .before .before .before .before .before .before .before .before .before .before .before .before .pre .0, room _ (c .before .before .before .before .before .before .before .before .before .before .before .before .before .before .before .before .before .before .pre .1) _ (omega (arith, safeBlock≤blocks g)))
 
-mul-ram : tie.Need-mul-ram Inv-loop μ-loop
-unfolding radix
-mul-ram c = rw (c .before .set-up-code2 .ensures) (omega (arith, setUpCode-lt (c .before .before .before .before .before .before .before .before .before .before .before .args .config) (c .before .before .further .result .0)))
+fill-requires-2 : tie.Need-fill-requires-2
+unfolding blocks radix
+fill-requires-2 c κs =
+    rw (c .before .before .before .before .before .before .before .before .before .before .before .before .before .before .before .before .before .before .before .block-of3 .ensures) (c .before .before .before .before .set-trusted2 .kept .1 .0 ∙ c .before .before .before .before .before .before .before .before .before .before .fill .kept .1 .0 ∙ c .before .before .before .before .before .before .before .before .before .before .before .before .before .before .before .before .set-trusted .kept .1 .0 ∙ c .before .before .before .before .before .before .before .before .before .before .before .before .before .before .before .before .before .before .before .before .before .before .before .pre .0, (room _ (c .before .before .before .before .before .before .before .before .before .before .before .before .before .before .before .before .before .before .before .before .before .before .before .pre .1) _ (omega arith), omega arith))
 
-add-ram : tie.Need-add-ram Inv-loop μ-loop
-unfolding radix
-add-ram c =
-    rw (c .before .set-up-code2 .ensures, c .before .before .before .set-up-code .ensures)
-    (omega (arith, setUpCode-lt (c .before .before .before .before .before .before .before .before .before .before .before .args .config) (c .before .before .further .result .0), setUpCode-lt (c .before .before .before .before .before .before .before .before .before .before .before .args .config) (c .before .before .before .before .before .before .loop .k .0)))
+same-length : tie.Need-same-length
+same-length c = search needs
 
-cast-ram : tie.Need-cast-ram Inv-loop μ-loop
-cast-ram c = search needs
-
-slice-write-ram : tie.Need-slice-write-ram Inv-loop μ-loop
-unfolding perByte
-slice-write-ram c =
-    omega (arith, c .before .before .before .before .before .before .before .before .before .before .before .before .pre .0, place<ram _ (c .before .before .before .before .before .before .before .before .before .before .before .before .pre .1) (c .before .before .before .before .before .before .before .loop .k .0) (omega arith))
-
-further-requires-2 : tie.Need-further-requires-2 Inv-loop μ-loop
-unfolding perByte
-further-requires-2 c κs = omega arith
-
-loop-less : tie.Need-loop-less Inv-loop μ-loop
-unfolding perByte
-loop-less c = rw (c .further2 .ensures) (omega arith)
-
-loop-again : tie.Need-loop-again Inv-loop μ-loop
-unfolding perByte radix
-loop-again c =
-    let inv = c .before .before .before .before .before .before .before .before .loop .inv in
-    let config = c .before .before .before .before .before .before .before .before .before .before .before .before .before .args .config in
-    let ram = c .before .before .before .before .before .before .before .before .loop .ram in
-    let k = c .before .before .before .before .before .before .before .before .loop .k .0 in
-    let low : c .before .before .before .before .before .set-up-code .result ≡ setUpCode config k = c .before .before .before .before .before .set-up-code .ensures in
-    let high : c .before .before .before .set-up-code2 .result ≡ setUpCode config (k + 1) = rw (c .before .before .before .before .further .ensures) at (c .before .before .before .set-up-code2 .ensures) in
-    let both : set ram (c .before .before .map-byte .result .0) (setUpCode config (k + 1) * 16 + setUpCode config k)
-    ≡ setCode (config .bot) (setCode (config .bot) ram k (setUpCode config k)) (k + 1) (setUpCode config (k + 1)) =
-    set-both (config .bot) ram k _ _ _ (c .before .before .map-byte .ensures) (inv .3)
-    (omega (arith, c .before .before .before .before .before .before .before .before .before .before .before .before .before .pre .0, c .before .before .map-byte .ensures, place<ram config (c .before .before .before .before .before .before .before .before .before .before .before .before .before .pre .1) k (omega arith)))
-    (inv .5 _) (setUpCode-lt config k) in
-    rw (low, high, both, c .further2 .ensures) (
-      inv .0,
-      inv .1,
-      omega arith,
-      omega arith,
-      simp length-setCode (inv .4),
-      setCode-bytes (config .bot) _ (k + 1) _ (setUpCode-lt config (k + 1))
-          (setCode-bytes (config .bot) ram k _ (setUpCode-lt config k) (inv .5)),
-      inv .6 ∙ set-up-next _ _ _ _ (omega arith),
-    )
-
-same-length : tie.Need-same-length Inv-loop μ-loop
-same-length c = c .before .before .loop .inv .4
-
-returns : tie.Need-returns Inv-loop μ-loop
-returns c = sym (c .before .before .loop .inv .6 ∙ set-up-end _ _ _ _ (c .if1 .left))
+returns : tie.Need-returns
+unfolding heapBlock safeBlock blocks freeCode
+returns c =
+    set-up-areas _ _ _ _ _ _ (goodConfig-facts _ (c .before .before .before .before .before .before .before .before .before .before .before .before .before .before .before .before .before .before .before .before .before .before .before .before .before .before .pre .1))
+    (rw (c .before .before .before .before .before .before .before .before .before .before .before .before .before .before .before .before .before .before .before .before .first-block .ensures, c .before .before .before .before .before .before .before .before .before .before .before .before .before .before .before .before .before .before .before .before .before .before .before .before .block-of .ensures) at (c .before .before .before .before .before .before .before .before .before .before .before .before .before .before .before .before .before .before .before .set-trusted .ensures))
+    (rw (c .before .before .before .before .before .before .before .before .before .before .before .before .before .before .before .before .before .before .before .before .before .before .before .before .block-of .ensures, c .before .before .before .before .before .before .before .before .before .before .before .before .before .before .before .before .before .before .before .before .before .before .before .block-of2 .ensures) at (c .before .before .before .before .before .before .before .before .before .before .before .before .before .fill .ensures))
+    (rw (c .before .before .before .before .before .before .before .before .before .before .before .before .before .before .before .before .before .before .before .before .before .before .before .block-of2 .ensures, c .before .before .before .before .before .before .before .before .before .before .before .before .before .before .before .before .before .before .before .before .before .before .block-of3 .ensures) at (c .before .before .before .before .before .before .before .set-trusted2 .ensures))
+    (rw (c .before .before .before .before .before .before .before .before .before .before .before .before .before .before .before .before .before .before .before .before .before .before .block-of3 .ensures) at (c .before .before .fill2 .ensures))
 
 pub set-up-map-spec : {M : Type 1} → statement M
 set-up-map-spec =
     tie.close
     (tie.spec
-    Inv-loop
-    μ-loop
     block-of-requires
-    map-bytes-for-requires
-    mul-places
+    block-of-requires-2
+    block-of-requires-3
     first-block-requires
-    loop-holds
-    set-up-code-requires
-    further-requires
-    set-up-code-requires-2
-    map-byte-requires
-    mul-ram
-    add-ram
-    cast-ram
-    slice-write-ram
-    further-requires-2
-    loop-less
-    loop-again
+    set-trusted-requires
+    sub-fill
+    fill-requires
+    sub-set-trusted
+    set-trusted-requires-2
+    fill-requires-2
     same-length
     returns)

@@ -1,10 +1,11 @@
 -- `operations::free` meets its contract. Assumes nothing.
-use mathlib.Core.Path.{refl, sym, ap}
+use mathlib.Core.Path.{refl, sym, ap, _∙_}
 use Rattle.rules.specs.declared.Answer.the-variants.{Done}
 use Rattle.laws.proofs.Answers.{gives-refused}
 use Rattle.laws.proofs.Codes.{freeCode-lt}
 use Rattle.laws.proofs.Segments.{segment-some}
-use Rattle.operations.proofs.Acts.{config-good, gives-as, own-before, own-codes, free-done}
+use Rattle.operations.specs.Places.{OwnSegment}
+use Rattle.operations.proofs.Acts.{config-good, gives-as, own-inside, own-from, own-codes, free-done}
 use borrow.Author.Needs.{needs}
 use Rattle.operations.proofs.free.Statement.{statement}
 use Rattle.operations.proofs.free.Tie as tie
@@ -12,50 +13,55 @@ use Rattle.operations.proofs.free.Tie as tie
 segment-at-requires : tie.Need-segment-at-requires
 segment-at-requires c κs = search needs
 
-enum-known-place : tie.Need-enum-known-place
-enum-known-place c = search needs
+enum-told : tie.Need-enum-told
+enum-told c = search needs
+
+found : (c : tie.After-enum-told) → OwnSegment (c .before .before .before .before .before .args .state) (c .before .before .before .before .before .args .ram .now) (c .before .before .before .before .before .args .address)
+found c = rw (c .enum-told .given .1) at (c .before .before .segment-at .ensures)
 
 segment-blocks-requires : tie.Need-segment-blocks-requires
 segment-blocks-requires c κs =
-    let own = rw (c .before .before .before .place .given .1) at (c .before .before .before .before .before .segment-at .ensures) in
-    (own .sized, (config-good _ (own .good), own-before _ _ _ _ own))
+    let own = found (c .before .before) in
+    (own .sized, (config-good _ (own .good), own-inside _ _ _ own))
 
 free-code-requires : tie.Need-free-code-requires
 free-code-requires c κs = search needs
 
 set-run-requires : tie.Need-set-run-requires
 set-run-requires c κs =
-    let own = rw (c .before .before .before .before .before .before .place .given .1) at (c .before .before .before .before .before .before .before .before .segment-at .ensures) in
+    let own = found (c .before .before .before .before .before) in
     rw (c .before .before .segment-blocks .ensures, c .before .free-code .ensures)
-    (own .sized, (segment-some _ _ _, (own-codes _ _ _ _ own, (freeCode-lt, freeCode-lt))))
+    (own .sized, (own-from _ _ _ own, (segment-some _ _ _, (own-codes _ _ _ own, (freeCode-lt, freeCode-lt)))))
 
-enum-known-place-2 : tie.Need-enum-known-place-2
-enum-known-place-2 c = search needs
+enum-told-2 : tie.Need-enum-told-2
+enum-told-2 c = search needs
 
 same-length : tie.Need-same-length
 same-length c = search needs
 
 returns : tie.Need-returns
 returns c =
-    gives-as _ _ _ _ (free-done _ _ _ _ (rw (c .before .before .before .before .before .before .before .before .before .place .given .1) at (c .before .before .before .before .before .before .before .before .before .before .before .segment-at .ensures)))
+    gives-as _ _ _ _ (free-done _ _ _ (found (c .before .before .before .before .before .before .before .before)))
     (ap Done (c .before .before .before .before .before .segment-blocks .ensures), refl, rw (c .before .before .before .before .before .segment-blocks .ensures, c .before .before .before .before .free-code .ensures) at (c .before .before .set-run .ensures))
 
 same-length-2 : tie.Need-same-length-2
 same-length-2 c = search needs
 
 returns-2 : tie.Need-returns-2
-returns-2 c = gives-refused _ _ _ _ _ _ (sym ((rw (c .before .place2 .given .1) at (c .before .before .before .segment-at .ensures)) .0)) _ refl
+returns-2 c =
+    let told = c .enum-told2 .given .1 in
+    gives-refused _ _ _ _ _ _ (told ∙ sym ((rw told at (c .before .before .segment-at .ensures)) .0)) _ told
 
 pub free-spec : {M : Type 1} → statement M
 free-spec =
     tie.close
     (tie.spec
     segment-at-requires
-    enum-known-place
+    enum-told
     segment-blocks-requires
     free-code-requires
     set-run-requires
-    enum-known-place-2
+    enum-told-2
     same-length
     returns
     same-length-2

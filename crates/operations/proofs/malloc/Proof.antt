@@ -1,12 +1,11 @@
 -- `operations::malloc` meets its contract. Assumes nothing.
-use mathlib.Core.Path.{refl, sym, ap}
-use Rattle.rules.specs.declared.RamByte.{RamByte}
-use Rattle.rules.specs.declared.Answer.the-variants.{Done}
+use mathlib.Core.Path.{refl, sym}
 use Rattle.laws.proofs.Blocks.{blocksFor-pos}
 use Rattle.laws.proofs.Answers.{gives-refused}
 use Rattle.laws.proofs.Codes.{startCode-lt, laterCode-lt}
 use Rattle.laws.proofs.Good.{goodState-facts}
-use Rattle.operations.proofs.Acts.{gives-as, room-codes, room-start, malloc-done}
+use Rattle.operations.specs.Places.{Room}
+use Rattle.operations.proofs.Acts.{gives-as, room-from, room-codes, malloc-done}
 use borrow.Author.Needs.{needs}
 use Rattle.operations.proofs.malloc.Statement.{statement}
 use Rattle.operations.proofs.malloc.Tie as tie
@@ -20,21 +19,21 @@ enum-known-place c = search needs
 blocks-for-requires : tie.Need-blocks-for-requires
 blocks-for-requires c κs = search needs
 
+found : (c : tie.After-place) → Room (c .place .given .0 .0) (c .before .before .before .before .before .args .state) (c .before .before .before .before .before .args .ram .now) (c .before .before .before .before .before .args .size)
+found c = rw (c .place .given .1) at (c .before .before .room .ensures)
+
 start-code-requires : tie.Need-start-code-requires
-start-code-requires c κs = goodState-facts _ ((rw (c .before .before .before .place .given .1) at (c .before .before .before .before .before .room .ensures)) .good) .domain≤trusted
+start-code-requires c κs = goodState-facts _ (found (c .before .before .before) .good) .domain≤trusted
 
 later-code-requires : tie.Need-later-code-requires
-later-code-requires c κs = goodState-facts _ ((rw (c .before .before .before .before .place .given .1) at (c .before .before .before .before .before .before .room .ensures)) .good) .domain≤trusted
+later-code-requires c κs = goodState-facts _ (found (c .before .before .before .before) .good) .domain≤trusted
 
 set-run-requires : tie.Need-set-run-requires
 set-run-requires c κs =
-    let room = rw (c .before .before .before .before .before .before .place .given .1) at (c .before .before .before .before .before .before .before .before .room .ensures) in
+    let room = found (c .before .before .before .before .before .before) in
     let domain = goodState-facts _ (room .good) .domain≤trusted in
     rw (c .before .before .before .blocks-for .ensures, c .before .before .start-code .ensures, c .before .later-code .ensures)
-    (room .sized, (blocksFor-pos (room .some), (room-codes _ _ _ _ room, (startCode-lt _ domain, laterCode-lt _ domain))))
-
-start-of-requires : tie.Need-start-of-requires
-start-of-requires c κs = room-start _ _ _ _ (rw (c .before .before .before .before .before .before .before .before .before .place .given .1) at (c .before .before .before .before .before .before .before .before .before .before .before .room .ensures))
+    (room .sized, (room-from _ _ _ _ room, (blocksFor-pos (room .some), (room-codes _ _ _ _ room, (startCode-lt _ domain, laterCode-lt _ domain)))))
 
 enum-known-place-2 : tie.Need-enum-known-place-2
 enum-known-place-2 c = search needs
@@ -44,11 +43,8 @@ same-length c = search needs
 
 returns : tie.Need-returns
 returns c =
-    gives-as _ _ _ _ (malloc-done _ _ _ _ (rw (c .before .before .before .before .before .before .before .before .before .before .place .given .1) at (c .before .before .before .before .before .before .before .before .before .before .before .before .room .ensures))) (
-      ap (λ (b : RamByte). Done (b .0)) (c .start-of .ensures),
-      refl,
-      rw (c .before .before .before .before .before .before .before .blocks-for .ensures, c .before .before .before .before .before .before .start-code .ensures, c .before .before .before .before .before .later-code .ensures) at (c .before .before .before .set-run .ensures),
-    )
+    gives-as _ _ _ _ (malloc-done _ _ _ _ (found (c .before .before .before .before .before .before .before .before .before)))
+    (refl, refl, rw (c .before .before .before .before .before .before .blocks-for .ensures, c .before .before .before .before .before .start-code .ensures, c .before .before .before .before .later-code .ensures) at (c .before .before .set-run .ensures))
 
 same-length-2 : tie.Need-same-length-2
 same-length-2 c = search needs
@@ -66,7 +62,6 @@ malloc-spec =
     start-code-requires
     later-code-requires
     set-run-requires
-    start-of-requires
     enum-known-place-2
     same-length
     returns

@@ -19,8 +19,8 @@ returns-3 c = simp (lt-leb _ _ (c .if3 .taken), and-false)
 returns-4 : tie.Need-returns-4
 returns-4 c = simp (le-ltb _ _ (c .if4 .taken))
 
-block-of-requires : tie.Need-block-of-requires
-block-of-requires c κs = search needs
+whole-blocks-requires : tie.Need-whole-blocks-requires
+whole-blocks-requires c κs = search needs
 
 map-bytes-for-requires : tie.Need-map-bytes-for-requires
 map-bytes-for-requires c κs = search needs
@@ -28,12 +28,12 @@ map-bytes-for-requires c κs = search needs
 add-result : tie.Need-add-result
 add-result c =
     let g = c .before .before .before .before .before .before .before .before .before .before .before .args .config in
-    omega (arith, map-length g (c .before .before .block-of .ensures) (c .before .map-bytes-for .ensures), end-fits g (omega arith) (omega arith))
+    omega (arith, map-length g (c .before .before .whole-blocks .ensures) (c .before .map-bytes-for .ensures), end-fits g (omega arith) (omega arith))
 
 returns-5 : tie.Need-returns-5
 returns-5 c =
     let g = c .before .before .before .before .before .before .before .before .before .before .before .before .args .config in
-    rw (map-length g (c .before .before .before .block-of .ensures) (c .before .before .map-bytes-for .ensures)) (end-decides g (omega arith) (omega arith) (omega arith) (omega arith))
+    rw (map-length g (c .before .before .before .whole-blocks .ensures) (c .before .before .map-bytes-for .ensures)) (end-decides g (omega arith) (omega arith) (omega arith) (omega arith))
 
 pub in-order-spec : {M : Type 1} → statement M
 in-order-spec =
@@ -43,7 +43,7 @@ in-order-spec =
     returns-2
     returns-3
     returns-4
-    block-of-requires
+    whole-blocks-requires
     map-bytes-for-requires
     add-result
     returns-5)

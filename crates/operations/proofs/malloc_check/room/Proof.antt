@@ -2,8 +2,10 @@
 use mathlib.Core.Path.{sym, _∙_}
 use native.Mathlib.Omega.{arith}
 use borrow.Author.Tests.{eq-eqb, ne-eqb, not-false}
+use Rattle.rules.specs.Memory.{blocksFor}
+use Rattle.rules.specs.Malloc.{lowestRun}
 use Rattle.laws.proofs.Blocks.{blocksFor-pos}
-use Rattle.operations.proofs.Acts.{config-good}
+use Rattle.operations.proofs.Acts.{config-good, run-nowhere}
 use borrow.Author.Needs.{needs}
 use Rattle.operations.proofs.malloc_check.room.Statement.{statement}
 use Rattle.operations.proofs.malloc_check.room.Tie as tie
@@ -33,8 +35,8 @@ lowest-run-requires c κs = (
   ),
 )
 
-enum-known-found : tie.Need-enum-known-found
-enum-known-found c = search needs
+enum-known-run : tie.Need-enum-known-run
+enum-known-run c = search needs
 
 enum-told : tie.Need-enum-told
 enum-told c = search needs
@@ -46,17 +48,18 @@ returns-3 c =
       good = (c .before .before .before .before .before .before .before .before .before .before .pre .1);
       untrusted = ne-eqb _ _ (c .before .before .before .before .before .before .before .if1 .left);
       some = omega arith;
-      lowest = sym (rw (c .before .before .before .before .blocks-for .ensures) at (c .before .before .before .lowest-run .ensures)) ∙ c .before .found .given .1;
+      lowest = sym (rw (c .before .before .before .before .blocks-for .ensures) at (c .before .before .before .lowest-run .ensures)) ∙ c .before .run .given .1;
     }
 
 returns-4 : tie.Need-returns-4
 returns-4 c =
+    let x = c .before .before .before .before .before .before .before .before .before .args in
     simp (
       eq-eqb _ _ (c .before .before .before .before .before .before .before .before .before .pre .0),
       c .before .before .before .before .before .before .before .before .before .pre .1,
       ne-eqb _ _ (c .before .before .before .before .before .before .if1 .left),
       ne-eqb _ _ (c .before .before .before .before .before .if2 .left),
-      sym (rw (c .before .before .before .blocks-for .ensures) at (c .before .before .lowest-run .ensures)) ∙ c .enum-told .given .1,
+      run-nowhere (x .state .config .bot) (lowestRun (x .state .config) (x .ram .now) (blocksFor (x .size))) (sym (rw (c .before .before .before .blocks-for .ensures) at (c .before .before .lowest-run .ensures)) ∙ c .enum-told .given .1),
     )
 
 pub room-spec : {M : Type 1} → statement M
@@ -67,7 +70,7 @@ room-spec =
     returns-2
     blocks-for-requires
     lowest-run-requires
-    enum-known-found
+    enum-known-run
     enum-told
     returns-3
     returns-4)

@@ -3,9 +3,8 @@ use mathlib.Core.Path.{refl}
 use native.Mathlib.Omega.{arith}
 use borrow.Author.Tests.{eq-eqb, ne-eqb, le-leb, lt-leb, lt-ltb, le-ltb}
 use Rattle.laws.proofs.Tests.{passed, failed}
-use Rattle.laws.proofs.Blocks.{start-le}
-use Rattle.map.proofs.Within.{bot≤heap, code<ram}
-use Rattle.operations.proofs.Acts.{config-good, heap-block}
+use Rattle.map.proofs.Within.{bot≤heap, code<ram, block<safe}
+use Rattle.operations.proofs.Acts.{config-good}
 use borrow.Author.Needs.{needs}
 use Rattle.operations.proofs.segment_check.segment_at.Statement.{statement}
 use Rattle.operations.proofs.segment_check.segment_at.Tie as tie
@@ -25,33 +24,24 @@ returns-2 c =
     )
     (refl, λ d. refl)
 
-block-of-requires : tie.Need-block-of-requires
-block-of-requires c κs =
-    omega (arith, bot≤heap _ (config-good _ (c .before .before .before .before .before .before .before .before .pre .1)), c .before .before .before .if1 .left)
-
-start-of-requires : tie.Need-start-of-requires
-start-of-requires c κs =
-    rw (c .block-of .ensures)
-    (omega (arith, start-le (c .before .before .before .before .before .before .before .before .before .args .state .config .bot) (c .before .before .before .before .before .before .before .before .before .args .address) (omega (arith, bot≤heap _ (config-good _ (c .before .before .before .before .before .before .before .before .before .pre .1)), c .before .before .before .before .if1 .left)), c .before .if2 .left))
+is-first-requires : tie.Need-is-first-requires
+is-first-requires c κs = omega (arith, bot≤heap _ (config-good _ (c .before .before .before .before .before .before .before .before .pre .1)), c .before .before .before .if1 .left)
 
 returns-3 : tie.Need-returns-3
 returns-3 c =
     simp (
-      eq-eqb _ _ (c .before .before .before .before .before .before .before .before .before .before .before .before .before .pre .0),
-      c .before .before .before .before .before .before .before .before .before .before .before .before .before .pre .1,
-      le-leb _ _ (c .before .before .before .before .before .before .before .before .if1 .left),
-      lt-ltb _ _ (c .before .before .before .before .before .if2 .left),
-      ne-eqb _ _ (rw (c .before .before .before .start-of .ensures, c .before .before .before .before .block-of .ensures) at (c .if3 .taken)),
+      eq-eqb _ _ (c .before .before .before .before .before .before .before .before .before .before .pre .0),
+      c .before .before .before .before .before .before .before .before .before .before .pre .1,
+      le-leb _ _ (c .before .before .before .before .before .if1 .left),
+      lt-ltb _ _ (c .before .before .if2 .left),
+      failed (c .before .is-first .ensures) (c .if3 .taken),
     )
     (refl, λ d. refl)
 
-code-of-requires : tie.Need-code-of-requires
-code-of-requires c κs = (
-  c .before .before .before .before .before .before .before .before .before .before .before .before .before .pre .0,
-  rw (c .before .before .before .before .block-of .ensures)
-      (let good = c .before .before .before .before .before .before .before .before .before .before .before .before .before .pre .1 in
-      code<ram _ (config-good _ good) _ (heap-block _ _ good (c .before .before .before .before .before .before .before .before .if1 .left) (c .before .before .before .before .before .if2 .left))),
-)
+code-at-requires : tie.Need-code-at-requires
+code-at-requires c κs =
+    let good = config-good _ (c .before .before .before .before .before .before .before .before .before .before .pre .1) in
+    (c .before .before .before .before .before .before .before .before .before .before .pre .0, (omega (arith, bot≤heap _ good, c .before .before .before .before .before .if1 .left), code<ram _ good _ (block<safe _ good _ (c .before .before .before .before .before .if1 .left) (c .before .before .if2 .left))))
 
 starts-segment-requires : tie.Need-starts-segment-requires
 starts-segment-requires c κs = search needs
@@ -59,12 +49,12 @@ starts-segment-requires c κs = search needs
 returns-4 : tie.Need-returns-4
 returns-4 c =
     simp (
-      eq-eqb _ _ (c .before .before .before .before .before .before .before .before .before .before .before .before .before .before .before .before .pre .0),
-      c .before .before .before .before .before .before .before .before .before .before .before .before .before .before .before .before .pre .1,
-      le-leb _ _ (c .before .before .before .before .before .before .before .before .before .before .before .if1 .left),
-      lt-ltb _ _ (c .before .before .before .before .before .before .before .before .if2 .left),
-      eq-eqb _ _ (rw (c .before .before .before .before .before .before .start-of .ensures, c .before .before .before .before .before .before .before .block-of .ensures) at (c .before .before .before .if3 .left)),
-      failed (rw (c .before .before .code-of .ensures, c .before .before .before .before .before .before .before .block-of .ensures) at (c .before .starts-segment .ensures)) (c .if4 .taken),
+      eq-eqb _ _ (c .before .before .before .before .before .before .before .before .before .before .before .before .before .pre .0),
+      c .before .before .before .before .before .before .before .before .before .before .before .before .before .pre .1,
+      le-leb _ _ (c .before .before .before .before .before .before .before .before .if1 .left),
+      lt-ltb _ _ (c .before .before .before .before .before .if2 .left),
+      passed (c .before .before .before .before .is-first .ensures) (c .before .before .before .if3 .left),
+      failed (rw (c .before .before .code-at .ensures) at (c .before .starts-segment .ensures)) (c .if4 .taken),
     )
     (refl, λ d. refl)
 
@@ -74,30 +64,29 @@ owner-of-requires c κs = search needs
 returns-5 : tie.Need-returns-5
 returns-5 c =
     simp (
-      eq-eqb _ _ (c .before .before .before .before .before .before .before .before .before .before .before .before .before .before .before .before .before .before .before .pre .0),
-      c .before .before .before .before .before .before .before .before .before .before .before .before .before .before .before .before .before .before .before .pre .1,
-      le-leb _ _ (c .before .before .before .before .before .before .before .before .before .before .before .before .before .before .if1 .left),
-      lt-ltb _ _ (c .before .before .before .before .before .before .before .before .before .before .before .if2 .left),
-      eq-eqb _ _ (rw (c .before .before .before .before .before .before .before .before .before .start-of .ensures, c .before .before .before .before .before .before .before .before .before .before .block-of .ensures) at (c .before .before .before .before .before .before .if3 .left)),
-      passed (rw (c .before .before .before .before .before .code-of .ensures, c .before .before .before .before .before .before .before .before .before .before .block-of .ensures) at (c .before .before .before .before .starts-segment .ensures)) (c .before .before .before .if4 .left),
-      ne-eqb _ _ (rw (c .before .before .owner-of .ensures, c .before .before .before .before .before .code-of .ensures, c .before .before .before .before .before .before .before .before .before .before .block-of .ensures) at (c .if5 .taken)),
+      eq-eqb _ _ (c .before .before .before .before .before .before .before .before .before .before .before .before .before .before .before .before .pre .0),
+      c .before .before .before .before .before .before .before .before .before .before .before .before .before .before .before .before .pre .1,
+      le-leb _ _ (c .before .before .before .before .before .before .before .before .before .before .before .if1 .left),
+      lt-ltb _ _ (c .before .before .before .before .before .before .before .before .if2 .left),
+      passed (c .before .before .before .before .before .before .before .is-first .ensures) (c .before .before .before .before .before .before .if3 .left),
+      passed (rw (c .before .before .before .before .before .code-at .ensures) at (c .before .before .before .before .starts-segment .ensures)) (c .before .before .before .if4 .left),
+      ne-eqb _ _ (rw (c .before .before .owner-of .ensures, c .before .before .before .before .before .code-at .ensures) at (c .if5 .taken)),
     )
     (refl, λ d. refl)
 
 returns-6 : tie.Need-returns-6
 returns-6 c =
     record {
-      sized = c .before .before .before .before .before .before .before .before .before .before .before .before .before .before .before .before .before .before .before .pre .0;
-      good = c .before .before .before .before .before .before .before .before .before .before .before .before .before .before .before .before .before .before .before .pre .1;
+      sized = c .before .before .before .before .before .before .before .before .before .before .before .before .before .before .before .before .pre .0;
+      good = c .before .before .before .before .before .before .before .before .before .before .before .before .before .before .before .before .pre .1;
       starts =
           simp (
-            le-leb _ _ (c .before .before .before .before .before .before .before .before .before .before .before .before .before .before .if1 .left),
-            lt-ltb _ _ (c .before .before .before .before .before .before .before .before .before .before .before .if2 .left),
-            eq-eqb _ _ (rw (c .before .before .before .before .before .before .before .before .before .start-of .ensures, c .before .before .before .before .before .before .before .before .before .before .block-of .ensures) at (c .before .before .before .before .before .before .if3 .left)),
-            passed (rw (c .before .before .before .before .before .code-of .ensures, c .before .before .before .before .before .before .before .before .before .before .block-of .ensures) at (c .before .before .before .before .starts-segment .ensures)) (c .before .before .before .if4 .left),
+            le-leb _ _ (c .before .before .before .before .before .before .before .before .before .before .before .if1 .left),
+            lt-ltb _ _ (c .before .before .before .before .before .before .before .before .if2 .left),
+            passed (c .before .before .before .before .before .before .before .is-first .ensures) (c .before .before .before .before .before .before .if3 .left),
+            passed (rw (c .before .before .before .before .before .code-at .ensures) at (c .before .before .before .before .starts-segment .ensures)) (c .before .before .before .if4 .left),
           );
-      owned = rw (c .before .before .owner-of .ensures, c .before .before .before .before .before .code-of .ensures, c .before .before .before .before .before .before .before .before .before .before .block-of .ensures) at (c .if5 .left);
-      place = c .before .before .before .before .before .before .before .before .before .before .block-of .ensures;
+      owned = rw (c .before .before .owner-of .ensures, c .before .before .before .before .before .code-at .ensures) at (c .if5 .left);
     }
 
 pub segment-at-spec : {M : Type 1} → statement M
@@ -106,10 +95,9 @@ segment-at-spec =
     (tie.spec
     returns
     returns-2
-    block-of-requires
-    start-of-requires
+    is-first-requires
     returns-3
-    code-of-requires
+    code-at-requires
     starts-segment-requires
     returns-4
     owner-of-requires

@@ -1,6 +1,7 @@
 -- `operations::store_check::answer` meets its contract. Assumes nothing.
 use mathlib.Core.Path.{sym, _∙_}
-use Rattle.operations.proofs.StoreRows.{past-ram, by-trusted, below-bot, above-bound, on-stack, of-other, of-own, owner-read, map-byte-inside}
+use Rattle.laws.proofs.Tests.{failed, passed}
+use Rattle.operations.proofs.StoreRows.{past-ram, by-trusted, below-bot, above-bound, on-stack, of-other, of-own, map-byte-inside}
 use borrow.Author.Needs.{needs}
 use Rattle.operations.proofs.store_check.answer.Statement.{statement}
 use Rattle.operations.proofs.store_check.answer.Tie as tie
@@ -32,30 +33,22 @@ returns-5 c =
     on-stack (x .state) (x .ram .now) (x .address) (c .before .before .before .before .before .before .before .before .before .before .before .before .before .before .before .pre .0) (c .before .before .before .before .before .before .before .before .before .before .before .before .before .before .before .pre .1) (c .before .before .before .before .before .before .before .before .before .before .before .before .if1 .left) (c .before .before .before .before .before .before .before .before .before .before .if2 .left) (c .before .before .before .before .before .before .if3 .left)
     (c .before .before .before .if4 .taken) (c .if5 .left)
 
-block-of-requires : tie.Need-block-of-requires
-block-of-requires c κs = search needs
-
-code-of-requires : tie.Need-code-of-requires
-code-of-requires c κs =
-    let x = c .before .before .before .before .before .before .before .before .before .before .before .before .before .args in
-    (c .before .before .before .before .before .before .before .before .before .before .before .before .before .pre .0, rw (c .block-of .ensures) (map-byte-inside (x .state) (x .address) (c .before .before .before .before .before .before .before .before .before .before .before .before .before .pre .1) (c .before .before .before .before .if3 .left) (c .before .if4 .left)))
-
-owner-of-requires : tie.Need-owner-of-requires
-owner-of-requires c κs = search needs
+owner-at-requires : tie.Need-owner-at-requires
+owner-at-requires c κs =
+    let x = c .before .before .before .before .before .before .before .before .before .before .before .before .args in
+    (c .before .before .before .before .before .before .before .before .before .before .before .before .pre .0, (c .before .before .before .if3 .left, map-byte-inside (x .state) (x .address) (c .before .before .before .before .before .before .before .before .before .before .before .before .pre .1) (c .before .before .before .if3 .left) (c .if4 .left)))
 
 returns-6 : tie.Need-returns-6
 returns-6 c =
-    let x = c .before .before .before .before .before .before .before .before .before .before .before .before .before .before .before .before .before .args in
-    let e = owner-read (x .state) (x .ram .now) (x .address) _ _ _ (c .before .before .before .before .block-of .ensures) (c .before .before .before .code-of .ensures) (c .before .before .owner-of .ensures) in
-    of-other (x .state) (x .ram .now) (x .address) (c .before .before .before .before .before .before .before .before .before .before .before .before .before .before .before .before .before .pre .0) (c .before .before .before .before .before .before .before .before .before .before .before .before .before .before .before .before .before .pre .1) (c .before .before .before .before .before .before .before .before .before .before .before .before .before .before .if1 .left) (c .before .before .before .before .before .before .before .before .before .before .before .before .if2 .left) (c .before .before .before .before .before .before .before .before .if3 .left)
-    (c .before .before .before .before .before .if4 .left) (λ h. c .if6 .taken (e ∙ h))
+    let x = c .before .before .before .before .before .before .before .before .before .before .before .before .before .before .before .args in
+    of-other (x .state) (x .ram .now) (x .address) (c .before .before .before .before .before .before .before .before .before .before .before .before .before .before .before .pre .0) (c .before .before .before .before .before .before .before .before .before .before .before .before .before .before .before .pre .1) (c .before .before .before .before .before .before .before .before .before .before .before .before .if1 .left) (c .before .before .before .before .before .before .before .before .before .before .if2 .left) (c .before .before .before .before .before .before .if3 .left)
+    (c .before .before .before .if4 .left) (λ h. c .if6 .taken (c .before .before .owner-at .ensures ∙ h))
 
 returns-7 : tie.Need-returns-7
 returns-7 c =
-    let x = c .before .before .before .before .before .before .before .before .before .before .before .before .before .before .before .before .before .args in
-    let e = owner-read (x .state) (x .ram .now) (x .address) _ _ _ (c .before .before .before .before .block-of .ensures) (c .before .before .before .code-of .ensures) (c .before .before .owner-of .ensures) in
-    of-own (x .state) (x .ram .now) (x .address) (c .before .before .before .before .before .before .before .before .before .before .before .before .before .before .before .before .before .pre .0) (c .before .before .before .before .before .before .before .before .before .before .before .before .before .before .before .before .before .pre .1) (c .before .before .before .before .before .before .before .before .before .before .before .before .before .before .if1 .left) (c .before .before .before .before .before .before .before .before .before .before .before .before .if2 .left) (c .before .before .before .before .before .before .before .before .if3 .left)
-    (c .before .before .before .before .before .if4 .left) (sym e ∙ c .if6 .left)
+    let x = c .before .before .before .before .before .before .before .before .before .before .before .before .before .before .before .args in
+    of-own (x .state) (x .ram .now) (x .address) (c .before .before .before .before .before .before .before .before .before .before .before .before .before .before .before .pre .0) (c .before .before .before .before .before .before .before .before .before .before .before .before .before .before .before .pre .1) (c .before .before .before .before .before .before .before .before .before .before .before .before .if1 .left) (c .before .before .before .before .before .before .before .before .before .before .if2 .left) (c .before .before .before .before .before .before .if3 .left)
+    (c .before .before .before .if4 .left) (sym (c .before .before .owner-at .ensures) ∙ c .if6 .left)
 
 pub answer-spec : {M : Type 1} → statement M
 answer-spec =
@@ -66,8 +59,6 @@ answer-spec =
     returns-3
     returns-4
     returns-5
-    block-of-requires
-    code-of-requires
-    owner-of-requires
+    owner-at-requires
     returns-6
     returns-7)
