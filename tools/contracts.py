@@ -15,7 +15,7 @@ and passes the function if
   - each word of it is taken from where the source takes it. A word of the crate's own, which promises cannot cite, is a parameter of the
     field (so the theorem holds whatever it means), or written out as its definition in the crate's specs says.
 
-A function is public if its file is open from the crate's root on. One with a `requires` is named as such: only proved code calls it.
+Functions of one name share the field, and each is held to it. A function is public if its file is open from the crate's root on. One with a `requires` is named as such: only proved code calls it.
 The last line printed is 'contracts: N passed, M failed'."""
 import glob
 import os
@@ -165,8 +165,6 @@ def main():
                 for function in functions(source):
                     name, full = function[0], "::".join((crate, *inner, function[0]))
                     try:
-                        if name in seen:
-                            raise ValueError("another public function has its name")
                         seen.add(name)
                         judge(crate, source, function, stated.get(name), taken)
                         print(f"contract {full}: unique")

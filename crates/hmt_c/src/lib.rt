@@ -14,10 +14,10 @@ use answer::packed;
 use answer::refused;
 use operands::flash_word;
 use operands::ram_byte;
-use operations::call_check::domain_of;
-use operations::call_check::table_word;
-use operations::return_check::caller;
-use operations::return_check::top_frame;
+use operations::looked_at::caller;
+use operations::looked_at::domain_of;
+use operations::looked_at::table_word;
+use operations::looked_at::top_frame;
 
 const RAM_BYTES: usize = 4096;
 
@@ -103,7 +103,7 @@ pub extern "C" fn hmt_call(
     let code = slot::code_at(slot, state.domain);
     let called = slot::code_at(slot, domain_of(at));
     let word = slot::word_at(table, 2 * (at as usize));
-    let outcome = operations::call(
+    let outcome = operations::call_with(
         state,
         ram,
         code,
@@ -133,7 +133,7 @@ pub extern "C" fn hmt_return(ram: &mut [u8], slot: &mut [u8]) -> u32
     }
     let frame = top_frame(state, ram);
     let code = slot::code_at(slot, caller(state, frame));
-    let outcome = operations::ret(state, ram, frame, code);
+    let outcome = operations::ret_with(state, ram, frame, code);
     slot::change(slot, outcome)
 }
 

@@ -1,14 +1,16 @@
 // Section 5, call: which answer it gets.
 ghost use mathlib.Core.Path.{_≡_};
 ghost use mathlib.Core.Bool.{true};
-ghost use Prim.Native.Nat.{_-_, _/_, _≤_, _<_};
+ghost use Prim.Native.Nat.{_≤_, _<_};
 ghost use lib.ListN.{length};
 ghost use Rattle.rules.specs.Memory.{ramBytes};
-ghost use Rattle.rules.specs.Code.{tableWords, domainWords, rangeOf, tableWord, calledDomain};
+ghost use Rattle.rules.specs.Code.{tableWords, rangeOf, tableWord, calledDomain};
 ghost use Rattle.rules.specs.State.{goodState};
 ghost use Rattle.rules.specs.Call.{callAnswer};
 ghost use Rattle.operations.specs.CallRows.{tableOf, CalledCode, localRows, crossRows};
 use crate::code_ranges::in_range;
+use crate::looked_at::TABLE_WORDS;
+use crate::looked_at::domain_of;
 use rules::Answer;
 use rules::Config;
 use rules::FlashWord;
@@ -16,32 +18,6 @@ use rules::RamByte;
 use rules::Range;
 use rules::Refusal;
 use rules::State;
-
-const TABLE_WORDS: u16 = 1024;
-
-const DOMAIN_WORDS: u16 = 128;
-
-// The table word of a cross-domain call's target; the first, of which nothing is asked, where the target is local or past the tables.
-pub fn table_word(jt: FlashWord, target: FlashWord) -> u16
-    ensures { λ r. ⌜ (r < tableWords) × (jt .0 ≤ target .0 → target .0 - jt .0 < tableWords → r ≡ target .0 - jt .0) ⌝ }
-{
-    if target.0 < jt.0 {
-        return 0;
-    }
-    let word = target.0 - jt.0;
-    if TABLE_WORDS <= word {
-        return 0;
-    }
-    word
-}
-
-// The domain of a table word.
-pub fn domain_of(word: u16) -> u8
-    requires { ⌜ word < tableWords ⌝ }
-    ensures { λ r. ⌜ r ≡ word / domainWords ⌝ }
-{
-    (word / DOMAIN_WORDS) as u8
-}
 
 // The domain that a cross-domain call calls.
 pub fn called_domain(config: Config, target: FlashWord) -> u8
@@ -67,7 +43,13 @@ fn local_answer(state: State, code: Range, target: FlashWord) -> Answer
 }
 
 // The rows of a cross-domain call.
-fn cross_answer(state: State, called: Range, word: u16, target: FlashWord, pointer: RamByte) -> Answer
+fn cross_answer(
+    state: State,
+    called: Range,
+    word: u16,
+    target: FlashWord,
+    pointer: RamByte,
+) -> Answer
     requires { ⌜ (goodState state ≡ true) × (state .config .jt .0 ≤ target .0) × CalledCode state target called ⌝ }
     ensures { λ r. ⌜ r ≡ crossRows state (tableOf word) target pointer ⌝ }
 {

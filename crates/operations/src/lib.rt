@@ -17,10 +17,11 @@ ghost use Rattle.rules.specs.Free.{freeOf, changeOf};
 ghost use Rattle.operations.specs.CallRows.{tableOf, CalledCode};
 ghost use Rattle.operations.specs.ReturnRows.{callerOf};
 
-pub mod call_check;
+mod call_check;
 mod code_ranges;
+pub mod looked_at;
 mod malloc_check;
-pub mod return_check;
+mod return_check;
 mod segment_check;
 mod states;
 mod store_check;
@@ -67,7 +68,7 @@ pub fn store(state: State, ram: &mut [u8], address: RamByte, byte: u8) -> Outcom
 // A call is handed what it looks at: the code ranges of the current domain and of the called one, and the word of its target; a local call,
 // or one past the tables, looks at the first alone. A frame is written to the safe stack area, which is lent to the frame writer, and to no
 // other byte.
-pub fn call(
+pub fn call_with(
     state: State,
     ram: &mut [u8],
     code: Range,
@@ -112,7 +113,7 @@ pub fn call(
 }
 
 // A return is handed the frame below the safe pointer and the code range of the domain that it returns to. The frame's bytes stay in RAM.
-pub fn ret(state: State, ram: &[u8], frame: Frame, code: Range) -> Outcome
+pub fn ret_with(state: State, ram: &[u8], frame: Frame, code: Range) -> Outcome
     requires { ⌜ (length (now ram) ≡ ramBytes) × (goodState state ≡ true) × (state .config .safe .0 < state .safepointer .0) × (frame ≡ topFrame state (now ram)) × (code ≡ rangeOf (state .config) (callerOf state frame)) ⌝ }
     ensures { λ r. ⌜ Gives r (now (ram .entry)) (returnOf state (now (ram .entry))) ⌝ }
 {

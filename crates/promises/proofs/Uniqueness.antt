@@ -1,11 +1,14 @@
 -- What stands behind an equation, or what a rule gives, determines the rest, so no second result satisfies a contract.
 -- Assumes nothing.
-use Prim.Native.Nat.{ℕ}
+use Prim.Native.Nat.{ℕ, _≤_, _<_}
 use mathlib.Core.Path.{_≡_, sym, ap, _∙_}
 use mathlib.Core.List.{List, _++_}
 use lib.ListN.{length, drop}
+use lib.Dec.{ltb}
+use borrow.Author.Tests.{ltb-true, ltb-false}
 use Rattle.rules.specs.Answers.{Given, Gives}
 use Rattle.rules.specs.Slot.{GivenToC, GivesToC}
+use Rattle.laws.proofs.Tests.{byTest}
 use Rattle.promises.specs.Uniqueness.{Only, Only2, Only3, Uniqueness}
 
 only : {A : Type 0} (v : A) → Only (λ (r : A). r ≡ v)
@@ -26,6 +29,13 @@ text-once text place r r′ left left′ (e, f) (e′, f′) =
     let same : r ≡ r′ = e ∙ sym e′ in
     (same, f ∙ ap (λ (n : ℕ). text ++ drop n place) same ∙ sym f′)
 
+-- a word of m, the first where n is none of them
+word-once : (n m : ℕ) → Only (λ r. (r < m) × (n < m → r ≡ n) × (m ≤ n → r ≡ 0))
+word-once n m r r′ (a, b, c) (a′, b′, c′) =
+    byTest (ltb n m)
+    (λ t. b (ltb-true n m t) ∙ sym (b′ (ltb-true n m t)))
+    (λ t. c (ltb-false n m t) ∙ sym (c′ (ltb-false n m t)))
+
 pub uniqueness : Uniqueness
 uniqueness =
     record {
@@ -33,12 +43,17 @@ uniqueness =
       givesToC = gives-to-c;
       «set_up» = λ config ram. gives _;
       store = λ state ram address byte. gives _;
-      «call_with» = λ tableOf state ram word target site pointer. gives _;
       call = λ state ram table target site pointer. gives _;
       ret = λ state ram. gives _;
       malloc = λ state ram size. gives _;
       free = λ state ram address. gives _;
       change = λ state ram address domain. gives _;
+      «call_with» = λ tableOf state ram code called word target site pointer. gives _;
+      «ret_with» = λ state ram frame code r r′ h h′. gives _ r r′ ram ram h h′ .0;
+      «table_word» = λ jt target. word-once _ _;
+      «domain_of» = λ word. only _;
+      «top_frame» = λ state ram. only _;
+      caller = λ callerOf state frame. only _;
       «number_of» = λ answer. only _;
       «value_of» = λ answer. only _;
       «hmt_set_up» = λ ram slot. gives-to-c _;

@@ -3,7 +3,7 @@
 -- Each field states the contract as it stands in the source, with x for what was lent as x, and x′ for what is left in it. That it does so
 -- word for word, and that no public function lacks its field, is what tools/contracts.py sees to.
 -- No axiom.
-use Prim.Native.Nat.{ℕ, _+_, _-_, _*_}
+use Prim.Native.Nat.{ℕ, _+_, _-_, _*_, _/_, _≤_, _<_}
 use mathlib.Core.Path.{_≡_}
 use mathlib.Core.Bool.{_&&_}
 use mathlib.Core.List.{List, _∷_, _++_}
@@ -13,19 +13,20 @@ use lib.Dec.{eqb}
 use Rattle.rules.specs.declared.RamByte.{RamByte}
 use Rattle.rules.specs.declared.FlashWord.{FlashWord}
 use Rattle.rules.specs.declared.Block.{Block}
+use Rattle.rules.specs.declared.Range.{Range}
 use Rattle.rules.specs.declared.Config.{Config}
 use Rattle.rules.specs.declared.State.{State}
 use Rattle.rules.specs.declared.Frame.{Frame}
 use Rattle.rules.specs.declared.Found.{Found}
 use Rattle.rules.specs.declared.Answer.{Answer}
 use Rattle.rules.specs.Memory.{ramBytes, startOf, blockOf, blocksFor, isMultiple, mapBytesFor, codeOf, setCodes, startCode, laterCode, freeCode, ownerOf, startsSegment}
-use Rattle.rules.specs.Code.{flashWord}
+use Rattle.rules.specs.Code.{tableWords, domainWords, flashWord}
 use Rattle.rules.specs.State.{ramByte, multiples, botBelowTop, mapBelowHeap, heapBelowSafe, safeBelowTop, topInRam, jtInFlash, goodConfig, domainGood, boundGood, safepointerGood, goodState}
 use Rattle.rules.specs.Answers.{numberOf, valueOf, Given, Gives}
 use Rattle.rules.specs.SetUp.{setUpRam, setUpOf}
 use Rattle.rules.specs.Store.{storeOf}
 use Rattle.rules.specs.Call.{low, high, frameBytes, callOf}
-use Rattle.rules.specs.Return.{readFrame, returnOf}
+use Rattle.rules.specs.Return.{readFrame, topFrame, returnOf}
 use Rattle.rules.specs.Malloc.{block, lowestRun, mallocOf}
 use Rattle.rules.specs.Free.{segmentBlocks, freeOf, changeOf}
 use Rattle.rules.specs.Slot.{GivenToC, GivesToC, cSetUpOf, cStoreOf, cCallOf, cReturnOf, cMallocOf, cFreeOf, cChangeOf}
@@ -45,12 +46,10 @@ pub record Uniqueness : Type 1 where
   -- what a rule gives leaves one answer, state and RAM; what a function called from C gives leaves one answer, slot and RAM
   pub gives : (g : Given) → Only2 (λ r ram. Gives r ram g)
   pub givesToC : (g : GivenToC) → Only3 (λ r slot ram. GivesToC r slot ram g)
-  -- crates/runtime; `tableOf` is a table that has one word everywhere
+  -- crates/runtime, and those of crates/operations that have the same contract
   pub «set_up» : (config : Config) (ram : List ℕ) → Only2 (λ r ram′. Gives r ram′ (setUpOf config ram))
   pub store : (state : State) (ram : List ℕ) (address : RamByte) (byte : ℕ)
       → Only2 (λ r ram′. Gives r ram′ (storeOf state ram address byte))
-  pub «call_with» : (tableOf : ℕ → List ℕ) (state : State) (ram : List ℕ) (word : ℕ) (target site : FlashWord) (pointer : RamByte)
-      → Only2 (λ r ram′. Gives r ram′ (callOf state ram (tableOf word) target site pointer))
   pub call : (state : State) (ram table : List ℕ) (target site : FlashWord) (pointer : RamByte)
       → Only2 (λ r ram′. Gives r ram′ (callOf state ram table target site pointer))
   pub ret : (state : State) (ram : List ℕ) → Only2 (λ r ram′. Gives r ram′ (returnOf state ram))
@@ -60,6 +59,15 @@ pub record Uniqueness : Type 1 where
       → Only2 (λ r ram′. Gives r ram′ (changeOf state ram address domain))
   pub «number_of» : (answer : Answer) → Only (λ r. r ≡ numberOf answer)
   pub «value_of» : (answer : Answer) → Only (λ r. r ≡ valueOf answer)
+  -- the others of crates/operations; `tableOf` is a table that has one word everywhere, `callerOf` the domain that a frame returns to
+  pub «call_with» : (tableOf : ℕ → List ℕ) (state : State) (ram : List ℕ) (code called : Range) (word : ℕ) (target site : FlashWord) (pointer : RamByte)
+      → Only2 (λ r ram′. Gives r ram′ (callOf state ram (tableOf word) target site pointer))
+  pub «ret_with» : (state : State) (ram : List ℕ) (frame : Frame) (code : Range) → Only (λ r. Gives r ram (returnOf state ram))
+  pub «table_word» : (jt target : FlashWord)
+      → Only (λ r. (r < tableWords) × (target .0 - jt .0 < tableWords → r ≡ target .0 - jt .0) × (tableWords ≤ target .0 - jt .0 → r ≡ 0))
+  pub «domain_of» : (word : ℕ) → Only (λ r. r ≡ word / domainWords)
+  pub «top_frame» : (state : State) (ram : List ℕ) → Only (λ r. r ≡ topFrame state ram)
+  pub caller : (callerOf : State → Frame → ℕ) (state : State) (frame : Frame) → Only (λ r. r ≡ callerOf state frame)
   -- crates/hmt_c, called from C
   pub «hmt_set_up» : (ram slot : List ℕ) → Only3 (λ r slot′ ram′. GivesToC r slot′ ram′ (cSetUpOf slot ram))
   pub «hmt_store» : (ram slot : List ℕ) (address byte : ℕ)

@@ -12,10 +12,10 @@ ghost use Rattle.rules.specs.Free.{freeOf, changeOf};
 pub mod numbers;
 mod states;
 
-use operations::call_check::domain_of;
-use operations::call_check::table_word;
-use operations::return_check::caller;
-use operations::return_check::top_frame;
+use operations::looked_at::caller;
+use operations::looked_at::domain_of;
+use operations::looked_at::table_word;
+use operations::looked_at::top_frame;
 use rules::Answer;
 use rules::Config;
 use rules::FlashWord;
@@ -103,7 +103,7 @@ pub fn call(
     let code = config.ranges[state.domain as usize];
     let called = config.ranges[domain_of(at) as usize];
     let word = table[at as usize];
-    operations::call(state, ram, code, called, word, target, site, pointer)
+    operations::call_with(state, ram, code, called, word, target, site, pointer)
 }
 
 pub fn ret(state: State, ram: &mut [u8]) -> Outcome
@@ -125,7 +125,7 @@ pub fn ret(state: State, ram: &mut [u8]) -> Outcome
     }
     let frame = top_frame(state, ram);
     let code = config.ranges[caller(state, frame) as usize];
-    operations::ret(state, ram, frame, code)
+    operations::ret_with(state, ram, frame, code)
 }
 
 pub fn malloc(state: State, ram: &mut [u8], size: u16) -> Outcome

@@ -131,15 +131,15 @@ flash-word-requires-3 c κs = search needs
 ram-byte-requires : tie.Need-ram-byte-requires
 ram-byte-requires c κs = search needs
 
-call-requires : tie.Need-call-requires
-call-requires c κs =
+call-with-requires : tie.Need-call-with-requires
+call-with-requires c κs =
     let args = c .before .before .before .before .before .before .before .before .before .before .before .before .before .before .before .before .before .before .before .before .before .before .before .before .before .args in
     let slot : List ℕ = now (args .slot) in
     let ram : List ℕ = now (args .ram) in
     let good : goodState (stateIn slot) ≡ true = passed (c .before .before .before .before .before .before .before .before .before .before .before .before .before .before .before .good-state .ensures) (c .before .before .before .before .before .before .before .before .before .before .before .before .before .before .if3 .left) in
     let word = rw (c .before .before .before .before .before .before .before .before .before .before .before .before .state-in .ensures, c .before .before .before .before .before .before .before .before .before .before .before .flash-word .ensures) at (c .before .before .before .before .before .before .before .before .before .before .table-word .ensures .1) in
     rw (c .before .before .before .before .before .before .before .before .before .before .before .before .state-in .ensures, c .before .before .flash-word2 .ensures)
-    (right-size slot ram (c .before .before .before .before .before .before .before .before .before .before .before .before .before .before .before .before .before .before .refusal-before .ensures .none (c .before .before .before .before .before .before .before .before .before .before .before .before .before .before .before .before .before .if2 .left) .sizes) .1, good, rw (c .before .before .before .before .before .before .before .before .before .before .before .before .state-in .ensures) at (c .before .before .before .before .before .before .before .before .code-at .ensures), λ from to. c .before .before .before .before .before .code-at2 .ensures ∙ ap (rangeOf (configIn slot)) (c .before .before .before .before .before .before .domain-of .ensures ∙ ap (λ w. w / domainWords) (word from to)))
+    (right-size slot ram (c .before .before .before .before .before .before .before .before .before .before .before .before .before .before .before .before .before .before .refusal-before .ensures .none (c .before .before .before .before .before .before .before .before .before .before .before .before .before .before .before .before .before .if2 .left) .sizes) .1, good, rw (c .before .before .before .before .before .before .before .before .before .before .before .before .state-in .ensures) at (c .before .before .before .before .before .before .before .before .code-at .ensures), λ from to. c .before .before .before .before .before .code-at2 .ensures ∙ ap (rangeOf (configIn slot)) (c .before .before .before .before .before .before .domain-of .ensures ∙ ap (λ w. w / domainWords) (word to)))
 
 change-requires : tie.Need-change-requires
 change-requires c κs =
@@ -167,14 +167,14 @@ returns-4 c =
     let at = rw (c .before .before .before .before .before .before .before .before .before .before .before .before .before .before .before .before .before .before .before .state-in .ensures, c .before .before .before .before .before .before .before .before .before .before .before .before .before .before .before .before .before .before .flash-word .ensures) at (c .before .before .before .before .before .before .before .before .before .before .before .before .before .before .before .before .before .table-word .ensures .1) in
     let e : 0 + 2 * tableWord (s .config) t ≡ 2 * tableWord (s .config) t = omega arith in
     let word : ℕ = c .before .before .before .before .before .before .before .before .before .before .before .word-at .result in
-    let gives : Gives (c .before .before .before .before .before .before .call .result) (c .before .before .before .before .before .before .call .last .1 .0) (callOf s ram (tableIn table) (flashWord (args .target)) (flashWord (args .site)) (ramByte (args .pointer))) =
-    gives-as (c .before .before .before .before .before .before .call .result) (c .before .before .before .before .before .before .call .last .1 .0) (callOf s ram (tableIn table) (flashWord (args .target)) (flashWord (args .site)) (ramByte (args .pointer))) (callOf (c .before .before .before .before .before .before .before .before .before .before .before .before .before .before .before .before .before .before .before .state-in .result) ram (tableOf word) (c .before .before .before .before .before .before .before .before .before .flash-word2 .result) (c .before .before .before .before .before .before .before .before .flash-word3 .result) (c .before .before .before .before .before .before .before .ram-byte .result))
-    (call-by-word s ram (tableIn table) (flashWord (args .target)) (flashWord (args .site)) (ramByte (args .pointer)) word (length-wordsAt table 0 tableWords) (λ from to. (rw e at (getD-wordsAt table 0 tableWords (tableWord (s .config) t) to)) ∙ sym (rw (at from to) at (c .before .before .before .before .before .before .before .before .before .before .before .word-at .ensures)))
+    let gives : Gives (c .before .before .before .before .before .before .call-with .result) (c .before .before .before .before .before .before .call-with .last .1 .0) (callOf s ram (tableIn table) (flashWord (args .target)) (flashWord (args .site)) (ramByte (args .pointer))) =
+    gives-as (c .before .before .before .before .before .before .call-with .result) (c .before .before .before .before .before .before .call-with .last .1 .0) (callOf s ram (tableIn table) (flashWord (args .target)) (flashWord (args .site)) (ramByte (args .pointer))) (callOf (c .before .before .before .before .before .before .before .before .before .before .before .before .before .before .before .before .before .before .before .state-in .result) ram (tableOf word) (c .before .before .before .before .before .before .before .before .before .flash-word2 .result) (c .before .before .before .before .before .before .before .before .flash-word3 .result) (c .before .before .before .before .before .before .before .ram-byte .result))
+    (call-by-word s ram (tableIn table) (flashWord (args .target)) (flashWord (args .site)) (ramByte (args .pointer)) word (length-wordsAt table 0 tableWords) (λ from to. (rw e at (getD-wordsAt table 0 tableWords (tableWord (s .config) t) to)) ∙ sym (rw (at to) at (c .before .before .before .before .before .before .before .before .before .before .before .word-at .ensures)))
     ∙ sym (handed ram (tableOf word) _ s _ t _ (flashWord (args .site)) _ (ramByte (args .pointer)) (c .before .before .before .before .before .before .before .before .before .before .before .before .before .before .before .before .before .before .before .state-in .ensures) (c .before .before .before .before .before .before .before .before .before .flash-word2 .ensures) (c .before .before .before .before .before .before .before .before .flash-word3 .ensures) (c .before .before .before .before .before .before .before .ram-byte .ensures)))
-    (c .before .before .before .before .before .before .call .ensures) in
+    (c .before .before .before .before .before .before .call-with .ensures) in
     changed-to-c slot ram (λ i. omega (arith, c .before .before .before .before .before .before .before .before .before .before .before .before .before .before .before .before .before .before .before .before .before .before .before .before .before .before .before .before .before .before .slice-known2 .given i)) ready (wrongSize slot ram || not (eqb (length table) tableBytes))
     (callAnswer s ram (tableIn table) (flashWord (args .target)) (flashWord (args .site)) (ramByte (args .pointer))) (called s (flashWord (args .target)) (flashWord (args .site)) (ramByte (args .pointer))) _ _ (sets ram (s .safepointer .0) (frameBytes (frameOf s t (flashWord (args .site)))))
-    (c .before .before .before .before .before .before .call .result) (c .before .before .change .result) sizes
+    (c .before .before .before .before .before .before .call-with .result) (c .before .before .change .result) sizes
     gives (c .before .before .change .ensures .0) (c .before .before .change .ensures .1) refl
 
 pub hmt-call-spec : {M : Type 1} → statement M
@@ -204,7 +204,7 @@ hmt-call-spec =
     flash-word-requires-2
     flash-word-requires-3
     ram-byte-requires
-    call-requires
+    call-with-requires
     change-requires
     same-length-5
     same-length-6

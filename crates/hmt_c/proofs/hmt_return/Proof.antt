@@ -105,8 +105,8 @@ code-at-requires c κs =
     let size = right-size slot ram (c .before .before .before .before .before .before .before .before .before .before .before .before .refusal-before .ensures .none (c .before .before .before .before .before .before .before .before .before .before .before .if1 .left) .sizes) in
     (size .0, rw (c .caller .ensures) (rw (c .before .before .before .before .before .before .state-in .ensures) (caller≤trusted (stateIn slot) ram good _ (rw (c .before .before .before .before .before .before .state-in .ensures) at (c .before .before .top-frame .ensures)))))
 
-ret-requires : tie.Need-ret-requires
-ret-requires c κs =
+ret-with-requires : tie.Need-ret-with-requires
+ret-with-requires c κs =
     let args = c .before .before .before .before .before .before .before .before .before .before .before .before .before .before .before .before .before .before .before .args in
     let slot : List ℕ = now (args .slot) in
     let ram : List ℕ = now (args .ram) in
@@ -137,8 +137,8 @@ returns-4 c =
     let s : State = stateIn slot in
     let ready = c .before .before .before .before .before .before .before .before .before .before .before .before .before .before .before .before .before .before .before .refusal-before .ensures .none (c .before .before .before .before .before .before .before .before .before .before .before .before .before .before .before .before .before .before .if1 .left) in
     changed-to-c slot ram (λ i. omega (arith, c .before .before .before .before .before .before .before .before .before .before .before .before .before .before .before .before .before .before .before .before .before .before .slice-known2 .given i)) ready (wrongSize slot ram) (returnAnswer s ram)
-    (returned s (topFrame s ram)) _ _ ram (c .before .before .before .before .ret .result) (c .before .before .change .result) (ready .sizes)
-    (rw (c .before .before .before .before .before .before .before .before .before .before .before .before .before .state-in .ensures) at (c .before .before .before .before .ret .ensures)) (c .before .before .change .ensures .0) (c .before .before .change .ensures .1)
+    (returned s (topFrame s ram)) _ _ ram (c .before .before .before .before .ret-with .result) (c .before .before .change .result) (ready .sizes)
+    (rw (c .before .before .before .before .before .before .before .before .before .before .before .before .before .state-in .ensures) at (c .before .before .before .before .ret-with .ensures)) (c .before .before .change .ensures .0) (c .before .before .change .ensures .1)
     (returned-config s (topFrame s ram))
 
 pub hmt-return-spec : {M : Type 1} → statement M
@@ -162,7 +162,7 @@ hmt-return-spec =
     top-frame-requires
     caller-requires
     code-at-requires
-    ret-requires
+    ret-with-requires
     change-requires
     same-length-7
     same-length-8

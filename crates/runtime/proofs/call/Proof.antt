@@ -74,11 +74,11 @@ mul-word c = search needs
 shared-slice-read-word : tie.Need-shared-slice-read-word
 shared-slice-read-word c = search needs
 
-call-requires : tie.Need-call-requires
-call-requires c κs =
+call-with-requires : tie.Need-call-with-requires
+call-with-requires c κs =
     let x = c .before .before .before .before .before .before .before .before .before .before .before .before .before .before .before .before .args in
     let (size, good) = ready (x .state) (x .ram .now) _ (c .before .before .before .before .before .before .before .before .before .before .before .first-rows .ensures) _ (c .before .before .before .before .before .before .before .before .before .enum-told .given .1) in
-    (size, good, refl, λ from to. ap (rangeOf (x .state .config)) (c .before .before .before .domain-of .ensures ∙ ap (λ w. w / domainWords) (c .before .before .before .before .before .before .table-word .ensures .1 from to)))
+    (size, good, refl, λ from to. ap (rangeOf (x .state .config)) (c .before .before .before .domain-of .ensures ∙ ap (λ w. w / domainWords) (c .before .before .before .before .before .before .table-word .ensures .1 to)))
 
 same-length-2 : tie.Need-same-length-2
 same-length-2 c = search needs
@@ -86,8 +86,8 @@ same-length-2 c = search needs
 returns-3 : tie.Need-returns-3
 returns-3 c =
     let x = c .before .before .before .before .before .before .before .before .before .before .before .before .before .before .before .before .before .before .before .args in
-    rw (call-by-word (x .state) (x .ram .now) (x .table .now) (x .target) (x .site) (x .pointer) _ (c .before .before .before .before .before .before .before .before .before .before .before .before .before .before .before .before .if1 .left) (λ from to. ap (λ i. getD (x .table .now) i 0) (sym (c .before .before .before .before .before .before .before .before .before .table-word .ensures .1 from to))))
-    (c .before .before .call .ensures)
+    rw (call-by-word (x .state) (x .ram .now) (x .table .now) (x .target) (x .site) (x .pointer) _ (c .before .before .before .before .before .before .before .before .before .before .before .before .before .before .before .before .if1 .left) (λ from to. ap (λ i. getD (x .table .now) i 0) (sym (c .before .before .before .before .before .before .before .before .before .table-word .ensures .1 to))))
+    (c .before .before .call-with .ensures)
 
 pub call-spec : {M : Type 1} → statement M
 call-spec =
@@ -110,6 +110,6 @@ call-spec =
     cast-word
     mul-word
     shared-slice-read-word
-    call-requires
+    call-with-requires
     same-length-2
     returns-3)

@@ -59,8 +59,8 @@ element-copy-out-code c =
     let (size, good) = ready (x .state) (x .ram .now) _ (c .before .before .before .before .before .before .before .before .first-rows .ensures) _ (c .before .before .before .before .before .before .enum-told .given .1) in
     omega (arith, c .caller .ensures, caller≤trusted (x .state) (x .ram .now) good _ (c .before .top-frame .ensures))
 
-ret-requires : tie.Need-ret-requires
-ret-requires c κs =
+ret-with-requires : tie.Need-ret-with-requires
+ret-with-requires c κs =
     let x = c .before .before .before .before .before .before .before .before .before .before .before .before .before .args in
     let (size, good) = ready (x .state) (x .ram .now) _ (c .before .before .before .before .before .before .before .before .before .before .first-rows .ensures) _ (c .before .before .before .before .before .before .before .before .enum-told .given .1) in
     (size, good, omega (arith, goodState-facts (x .state) good .safe≤safepointer, c .before .before .before .before .before .if1 .left), c .before .before .before .top-frame .ensures, ap (rangeOf (x .state .config)) (c .before .before .caller .ensures))
@@ -87,6 +87,6 @@ ret-spec =
     cast-code
     mul-code
     element-copy-out-code
-    ret-requires
+    ret-with-requires
     same-length-3
     returns-3)

@@ -1,4 +1,4 @@
--- `operations::call` meets its contract. Assumes nothing.
+-- `operations::call_with` meets its contract. Assumes nothing.
 use native.Mathlib.Omega.{arith}
 use lib.Seq.{sets}
 use Rattle.rules.specs.declared.Frame.the-variants.{Local, Cross}
@@ -9,8 +9,8 @@ use Rattle.operations.proofs.SafeStack.{Area, area, room}
 use Rattle.operations.proofs.Calls.{pushed, gives-local, gives-cross, local-fits, cross-fits, word-within}
 use Rattle.operations.specs.CallRows.{tableOf}
 use borrow.Author.Needs.{needs}
-use Rattle.operations.proofs.call.Statement.{statement}
-use Rattle.operations.proofs.call.Tie as tie
+use Rattle.operations.proofs.call_with.Statement.{statement}
+use Rattle.operations.proofs.call_with.Tie as tie
 
 -- a call that is done, and the safe stack area that is lent to it
 done : (c : tie.After-enum-told) → CallDone (c .before .before .before .before .before .args .state) (c .before .before .before .before .before .args .ram .now) (c .before .before .before .before .before .args .target) (c .before .before .before .before .before .args .site)
@@ -108,8 +108,8 @@ returns-3 c =
     (sets (x .ram .now) (x .state .safepointer .0) (frameBytes (frameOf (x .state) (x .target) (x .site))))
     (c .before .before .answer .ensures) _ (c .enum-told2 .given .1)
 
-pub call-spec : {M : Type 1} → statement M
-call-spec =
+pub call-with-spec : {M : Type 1} → statement M
+call-with-spec =
     tie.close
     (tie.spec
     answer-requires

@@ -1,11 +1,11 @@
--- `operations::ret` meets its contract. Assumes nothing.
+-- `operations::ret_with` meets its contract. Assumes nothing.
 use mathlib.Core.Path.{sym, _∙_}
 use native.Mathlib.Omega.{arith}
 use Rattle.operations.proofs.SafeStack.{Area, area}
 use Rattle.operations.proofs.Returns.{Framed, framed, gives-local, gives-cross, gives-damage, local-below, cross-below}
 use borrow.Author.Needs.{needs}
-use Rattle.operations.proofs.ret.Statement.{statement}
-use Rattle.operations.proofs.ret.Tie as tie
+use Rattle.operations.proofs.ret_with.Statement.{statement}
+use Rattle.operations.proofs.ret_with.Tie as tie
 
 -- there is a frame, and the safe stack area that holds it
 there : (c : tie.Start) → Framed (c .args .state) (c .args .ram .now)
@@ -51,8 +51,8 @@ returns-3 c =
     let x = c .before .before .before .before .args in
     gives-damage (x .state) (x .ram .now) (there (c .before .before .before .before)) (rw (c .before .before .before .before .pre .3) at (sym (c .before .before .judged .ensures) ∙ c .enum-told .given .1))
 
-pub ret-spec : {M : Type 1} → statement M
-ret-spec =
+pub ret-with-spec : {M : Type 1} → statement M
+ret-with-spec =
     tie.close
     (tie.spec
     judged-requires

@@ -1,11 +1,11 @@
--- `operations::return_check::top_frame` meets its contract. Assumes nothing.
+-- `operations::looked_at::top_frame` meets its contract. Assumes nothing.
 use mathlib.Core.Path.{_∙_}
 use native.Mathlib.Omega.{arith}
 use Rattle.operations.proofs.SafeStack.{Area, area, lent-length}
 use Rattle.operations.proofs.Returns.{frame-read}
 use borrow.Author.Needs.{needs}
-use Rattle.operations.proofs.return_check.top_frame.Statement.{statement}
-use Rattle.operations.proofs.return_check.top_frame.Tie as tie
+use Rattle.operations.proofs.looked_at.top_frame.Statement.{statement}
+use Rattle.operations.proofs.looked_at.top_frame.Tie as tie
 
 -- the safe stack area that is lent
 room-of : (c : tie.Start) → Area (c .args .state) (c .args .ram .now)
