@@ -19,7 +19,7 @@ use operations::looked_at::domain_of;
 use operations::looked_at::table_word;
 use operations::looked_at::top_frame;
 
-const RAM_BYTES: usize = 4096;
+const RAM_BYTES: usize = address::RAM_BYTES as usize;
 
 const SLOT_BYTES: usize = 48;
 

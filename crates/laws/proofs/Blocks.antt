@@ -104,9 +104,6 @@ block-le bot a e = in-order blockBytes-pos (bot .0)
 pub block-lt : (bot a e : RamByte) → isMultiple bot ≡ true → isMultiple e ≡ true → bot .0 ≤ a .0 → a .0 < e .0 → blockOf bot a < blockOf bot e
 block-lt bot a e m n g h = block-before bot a (blockOf bot e) g (omega (arith, aligned bot e m n (omega arith)))
 
-pub lt-block : (bot a e : RamByte) → blockOf bot a < blockOf bot e → a .0 < e .0
-lt-block bot a e h = lt-of-not-le (λ g. omega (arith, block-le bot e a g))
-
 pub block-small : (bot a : RamByte) → blockOf bot a ≤ a .0
 unfolding blockOf
 block-small bot a = omega (arith, div-le-self (a .0 - bot .0) blockBytes)
@@ -124,14 +121,6 @@ blocksFor-less = up-less blockBytes-pos
 pub blocksFor-least : {size : ℕ} (n : ℕ) → size ≤ n * blockBytes → blocksFor size ≤ n
 unfolding blocksFor
 blocksFor-least = up-least blockBytes-pos
-
-pub blocksFor-exact : (n : ℕ) → blocksFor (n * blockBytes) ≡ n
-unfolding blocksFor
-blocksFor-exact = up-exact blockBytes-pos
-
-pub blocksFor-le : (size : ℕ) → blocksFor size ≤ size
-unfolding blocksFor
-blocksFor-le = up-le blockBytes-pos
 
 pub blocksFor-pos : {size : ℕ} → 0 < size → 0 < blocksFor size
 unfolding blocksFor

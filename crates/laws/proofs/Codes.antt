@@ -126,14 +126,6 @@ pub start≢later : (d e : ℕ) → startCode d ≢ laterCode e
 unfolding startCode laterCode
 start≢later d e f = omega arith
 
-pub start-inj : (d e : ℕ) → startCode d ≡ startCode e → d ≡ e
-unfolding startCode
-start-inj d e f = omega arith
-
-pub later-inj : (d e : ℕ) → laterCode d ≡ laterCode e → d ≡ e
-unfolding laterCode
-later-inj d e f = omega arith
-
 -- ---- which codes start a segment
 
 pub starts-start : (d : ℕ) → d < trusted → startsSegment (startCode d) ≡ true
@@ -147,15 +139,6 @@ starts-later d = rw (ne-eqb (2 * d % 2) 1 (λ e. omega arith)) refl
 pub starts-free : startsSegment freeCode ≡ false
 unfolding startsSegment freeCode
 starts-free = refl
-
-pub starts-only : (code : ℕ) → startsSegment code ≡ true → code < radix
-    → (code ≡ startCode (ownerOf code)) × (ownerOf code < trusted)
-unfolding startsSegment startCode ownerOf radix freeCode
-starts-only code h l =
-    let (odd, other) = both (eqb (code % 2) 1) (not (eqb code 15)) h in
-    let o : code % 2 ≡ 1 = eqb-true _ _ odd in
-    let n : code ≢ 15 = eqb-false code 15 (not-true _ other) in
-    (omega arith, omega arith)
 
 -- ---- codes as data
 

@@ -22,12 +22,6 @@ use Rattle.rules.specs.Return.{wordAt, readFrame}
 pub word-of-bytes : (n : ℕ) → low n + 256 * high n ≡ n
 word-of-bytes n = omega arith
 
-pub low-byte : (n : ℕ) → low n < 256
-low-byte n = omega arith
-
-pub high-byte : (n : ℕ) → n < 65536 → high n < 256
-high-byte n h = omega arith
-
 -- ---- a frame read back
 
 -- what makes the last bytes a local frame, and what a cross-domain one

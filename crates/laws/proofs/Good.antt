@@ -185,9 +185,6 @@ module _ {c : Config} (g : GoodConfig c) where
   pub block-fits : {k : ℕ} → k < blocks c → startOf (c .bot) k + blockBytes ≤ c .top .0
   block-fits h = omega (arith, start-lt (c .bot) h, top-start)
 
-  pub blockBytes≤top : blockBytes ≤ c .top .0
-  blockBytes≤top = omega (arith, block-fits blocks-pos)
-
   pub blocks≤ram : blocks c ≤ ramBytes
   unfolding blocks
   blocks≤ram = omega (arith, block-small (c .bot) (c .top))

@@ -67,9 +67,6 @@ module _ (bot : RamByte) where
   unfolding mapByte
   mapByte-lt k m h = omega (arith, div-lt-iff-lt-mul {k = perByte} {x = k} {y = m} perByte-pos .1 h)
 
-  pub mapByte-lt-for : (k n : ℕ) → k < n → mapByte bot k < bot .0 + mapBytesFor n
-  mapByte-lt-for k n h = mapByte-lt k (mapBytesFor n) (omega (arith, map-room n))
-
   -- the block whose code is digit i of byte j
   mapByte-at : (j i : ℕ) → bot .0 ≤ j → i < perByte → mapByte bot ((j - bot .0) * perByte + i) ≡ j
   unfolding mapByte perByte

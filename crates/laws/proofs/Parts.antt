@@ -86,9 +86,6 @@ module _ {A : Type 0} where
   pub slice-sets-before : (f t : ℕ) (l : List A) (p : ℕ) (vs : List A) → t ≤ p → slice f t (sets l p vs) ≡ slice f t l
   slice-sets-before f t l p vs h = rw (take-sets t l p vs h)
 
-  pub slice-sets-after : (f t : ℕ) (l : List A) (p : ℕ) (vs : List A) → p + length vs ≤ f → slice f t (sets l p vs) ≡ slice f t l
-  slice-sets-after f t l p vs h = rw (slice-as f t (sets l p vs), slice-as f t l, drop-sets f l p vs h)
-
   pub slice-sets-same : (l : List A) (p : ℕ) (vs : List A) → p + length vs ≤ length l → slice p (p + length vs) (sets l p vs) ≡ vs
   slice-sets-same l p vs h =
       let m : length (take p l) ≡ p = length-take-le p l (omega arith) in

@@ -30,6 +30,3 @@ module _ {d : ℕ} (pos : 0 < d) where
 
   pub up-pos : {n : ℕ} → 0 < n → 0 < dividedUp n d
   up-pos {n} h = lt-of-mul-lt-mul-right d (omega (arith, up-holds n))
-
-  pub up-mono : {m n : ℕ} → m ≤ n → dividedUp m d ≤ dividedUp n d
-  up-mono {m} {n} h = up-least (dividedUp n d) (omega (arith, up-holds n))

@@ -60,10 +60,6 @@ module _ (c : Config) (ram : List ℕ) where
 
   -- ---- the steps of the search
 
-  pub search-end : (n k : ℕ) → firstRun c ram n k 0 ≡ Nowhere
-  unfolding firstRun
-  search-end n k = refl
-
   pub search-here : (n k left : ℕ) → freeRun c ram k n ≡ true → firstRun c ram n k (suc left) ≡ At (block k)
   unfolding firstRun
   search-here n k left h = rw h
@@ -162,7 +158,3 @@ module _ (c : Config) (ram ram′ : List ℕ) (same : (k : ℕ) → codeOf (c .b
   unfolding firstRun
   same-first n k zero = refl
   same-first n k (suc left) = rw (same-run n k, same-first n (suc k) left)
-
-  pub same-lowest : (n : ℕ) → lowestRun c ram n ≡ lowestRun c ram′ n
-  unfolding lowestRun
-  same-lowest n = same-first n _ _

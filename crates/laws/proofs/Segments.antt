@@ -111,7 +111,3 @@ module _ (c : Config) (ram ram′ : List ℕ) (same : (k : ℕ) → codeOf (c .b
   unfolding continued
   same-continued d k zero = refl
   same-continued d k (suc left) = rw (same k, same-continued d (suc k) left)
-
-  pub same-segment : (k : ℕ) → segmentBlocks c ram k ≡ segmentBlocks c ram′ k
-  unfolding segmentBlocks
-  same-segment k = rw (same k, same-continued (ownerOf (codeOf (c .bot) ram′ k)) (suc k) (safeBlock c - suc k))

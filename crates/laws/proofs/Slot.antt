@@ -196,17 +196,6 @@ ranges-bytes jt (r ∷ rs) h o =
     let pair : List ℕ = wordBytes (r .start .0) ++ wordBytes (r .end .0) in
     append-bytes pair (rangesBytes rs) (byte-at pair (omega arith)) (ranges-bytes jt rs h more)
 
-pub slotOf-bytes : (s : State) → goodState s ≡ true → Bytes (slotOf s)
-slotOf-bytes s h =
-    let g : GoodState s = goodState-facts s h in
-    let c : GoodConfig (s .config) = g .config in
-    rw (parts s)
-    (append-bytes (configBytes (s .config)) (behind s)
-    (append-bytes (boundsBytes (s .config)) (rangesBytes (s .config .ranges))
-    (byte-at (boundsBytes (s .config)) (omega arith))
-    (ranges-bytes (s .config .jt) (s .config .ranges) (omega arith) (c .rangesOrdered)))
-    (byte-at (behind s) (omega arith)))
-
 -- ---- the words of a table of bytes
 
 pub length-wordsAt : (bytes : List ℕ) (at n : ℕ) → length (wordsAt bytes at n) ≡ n

@@ -27,7 +27,7 @@ use rules::State;
 // RAM's length, as a slice has it, and a jump table's.
 const RAM_BYTES: usize = address::RAM_BYTES as usize;
 
-const TABLE_WORDS: usize = 1024;
+const TABLE_WORDS: usize = operations::looked_at::TABLE_WORDS as usize;
 
 // Section 2: set-up.
 pub fn set_up(config: Config, ram: &mut [u8]) -> Outcome
