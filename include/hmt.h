@@ -26,6 +26,9 @@
  *     ended, so an interrupt routine makes none;
  *   - between calls nothing but these functions writes the slot or RAM: a
  *     byte that C stores to RAM by itself was never checked, and what is
+ *     promised of the calls after it no longer holds;
+ *   - the trusted domain stores neither into the map (from bot on) nor into
+ *     the safe stack area (safe up to top): hmt_store lets it, but what is
  *     promised of the calls after it no longer holds.
  */
 #ifndef HMT_H

@@ -4,13 +4,13 @@
 use Prim.Native.Nat.{ℕ, suc, _+_, _-_, _*_, _/_, _%_, _<_, _≤_}
 use mathlib.Core.Path.{_≡_}
 use mathlib.Core.Bool.{true}
-use native.Mathlib.Nat.{lt-of-not-le, suc-mul, mul-le-mul-right, div-mul-le-self, div-le-self, lt-div-mul-add, le-div-iff-mul-le, div-lt-iff-lt-mul, dvd-of-mod-eq-zero, dvd-sub, div-mul-cancel}
+use native.Mathlib.Nat.{suc-mul, mul-le-mul-right, div-mul-le-self, div-le-self, lt-div-mul-add, le-div-iff-mul-le, div-lt-iff-lt-mul, dvd-of-mod-eq-zero, dvd-sub, div-mul-cancel}
 use native.Mathlib.Omega.{arith}
 use borrow.Author.Tests.{eqb-true}
 use Rattle.rules.specs.declared.RamByte.{RamByte}
 use Rattle.rules.specs.Memory.{blockBytes, startOf, blockOf, isMultiple, blocksFor}
 use Rattle.rules.specs.State.{ramByte}
-use Rattle.laws.proofs.Rounding.{up-holds, up-less, up-least, up-exact, up-le, up-pos}
+use Rattle.laws.proofs.Rounding.{up-holds, up-less, up-least, up-pos}
 
 -- ---- over any block size b, from any number bot on
 

@@ -3,16 +3,16 @@
 use Prim.Native.Nat.{ℕ, zero, suc, _+_, _*_, _%_, _≤_, _<_}
 use mathlib.Core.Path.{_≡_, refl, sym, ap}
 use mathlib.Core.Logic.{_≢_}
-use mathlib.Core.Bool.{Bool, true, false, not, cond}
+use mathlib.Core.Bool.{Bool, true, false, cond}
 use native.Mathlib.Nat.{add-zero, add-suc, suc-add}
 use native.Mathlib.Omega.{arith}
 use lib.ListN.{length, getD, length-replicate, getD-replicate}
-use borrow.Author.Tests.{eqb-true, eqb-false, not-true, ne-eqb, eq-eqb, lt-ltb, le-ltb}
+use borrow.Author.Tests.{eqb-true, eqb-false, ne-eqb, eq-eqb, lt-ltb, le-ltb}
 use lib.Dec.{eqb, ltb}
 use Rattle.rules.specs.declared.Config.{Config}
 use Rattle.rules.specs.Memory.{radix, trusted, startCode, laterCode, freeCode, ownerOf, startsSegment, segmentCodes, heapBlock, safeBlock, blocks}
 use Rattle.rules.specs.SetUp.{setUpCode, setUpCodes}
-use Rattle.laws.proofs.Tests.{both, byTest}
+use Rattle.laws.proofs.Tests.{byTest}
 use Rattle.laws.proofs.AllBelow.{AllBelow, none, one, all-replicate}
 
 -- ---- bounds

@@ -59,10 +59,6 @@ module _ (bot : RamByte) where
   unfolding mapByte
   mapByte-ge k = omega arith
 
-  pub mapByte-mono : (k j : ℕ) → k ≤ j → mapByte bot k ≤ mapByte bot j
-  unfolding mapByte perByte
-  mapByte-mono k j h = omega arith
-
   pub mapByte-lt : (k m : ℕ) → k < m * perByte → mapByte bot k < bot .0 + m
   unfolding mapByte
   mapByte-lt k m h = omega (arith, div-lt-iff-lt-mul {k = perByte} {x = k} {y = m} perByte-pos .1 h)

@@ -1,8 +1,7 @@
 -- Division rounded up, over any divisor above 0.
 -- Assumes nothing.
 use Prim.Native.Nat.{ℕ, suc, _+_, _-_, _*_, _<_, _≤_}
-use mathlib.Core.Path.{_≡_}
-use native.Mathlib.Nat.{lt-div-mul-add, div-mul-le-self, div-lt-iff-lt-mul, suc-mul, le-mul-of-pos-right, le-of-mul-le-mul-right, lt-of-mul-lt-mul-right}
+use native.Mathlib.Nat.{lt-div-mul-add, div-mul-le-self, div-lt-iff-lt-mul, suc-mul, le-mul-of-pos-right, lt-of-mul-lt-mul-right}
 use native.Mathlib.Omega.{arith}
 use Rattle.rules.specs.Memory.{dividedUp}
 
@@ -21,9 +20,6 @@ module _ {d : ℕ} (pos : 0 < d) where
   pub up-least : {n : ℕ} (k : ℕ) → n ≤ k * d → dividedUp n d ≤ k
   unfolding dividedUp
   up-least {n} k h = omega (arith, div-lt-iff-lt-mul {k = d} {x = n + (d - 1)} {y = suc k} pos .1 (omega (arith, suc-mul k d)))
-
-  pub up-exact : (k : ℕ) → dividedUp (k * d) d ≡ k
-  up-exact k = let more : k ≤ dividedUp (k * d) d = le-of-mul-le-mul-right (up-holds (k * d)) pos in omega (arith, up-least {n = k * d} k (omega arith))
 
   pub up-le : (n : ℕ) → dividedUp n d ≤ n
   up-le n = up-least n (le-mul-of-pos-right n pos)

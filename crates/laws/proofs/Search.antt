@@ -141,20 +141,3 @@ module _ (c : Config) (ram : List ℕ) where
 
   pub run-found : (n j : ℕ) → freeRun c ram j n ≡ true → 0 < n → lowestRun c ram n ≡ Nowhere → ⊥
   run-found n j f p h = true≢false (sym f ∙ not-found n h p j)
-
--- ---- the search looks at codes alone
-
-module _ (c : Config) (ram ram′ : List ℕ) (same : (k : ℕ) → codeOf (c .bot) ram k ≡ codeOf (c .bot) ram′ k) where
-  pub same-free : (k : ℕ) → isFree c ram k ≡ isFree c ram′ k
-  unfolding isFree
-  same-free k = rw (same k)
-
-  pub same-run : (n k : ℕ) → freeRun c ram k n ≡ freeRun c ram′ k n
-  unfolding freeRun
-  same-run zero k = refl
-  same-run (suc n) k = rw (same-free k, same-run n (suc k))
-
-  pub same-first : (n k left : ℕ) → firstRun c ram n k left ≡ firstRun c ram′ n k left
-  unfolding firstRun
-  same-first n k zero = refl
-  same-first n k (suc left) = rw (same-run n k, same-first n (suc k) left)

@@ -103,11 +103,3 @@ module _ (c : Config) (ram : List ℕ) where
   unfolding segmentBlocks
   segment-in-heap k h =
       omega (arith, continued-le (ownerOf (codeOf (c .bot) ram k)) (suc k) (safeBlock c - suc k))
-
--- ---- counting looks at codes alone
-
-module _ (c : Config) (ram ram′ : List ℕ) (same : (k : ℕ) → codeOf (c .bot) ram k ≡ codeOf (c .bot) ram′ k) where
-  pub same-continued : (d k left : ℕ) → continued c ram d k left ≡ continued c ram′ d k left
-  unfolding continued
-  same-continued d k zero = refl
-  same-continued d k (suc left) = rw (same k, same-continued d (suc k) left)

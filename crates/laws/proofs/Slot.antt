@@ -3,27 +3,20 @@
 -- Assumes nothing.
 use Prim.Native.Nat.{ℕ, zero, suc, _+_, _*_, _<_, _≤_}
 use mathlib.Core.Path.{_≡_, refl, sym, ap, _∙_}
-use mathlib.Core.Bool.{true}
 use mathlib.Core.List.{List, [], _∷_, _++_, append-assoc, append-nil}
 use native.Mathlib.Omega.{arith}
 use lib.ListN.{length, getD, take, drop, length-append, drop-of-length-le}
 use lib.Seq.{sets, set-getD, take-at, drop-cons, drop-drop, getD-drop, getD-append-add, sets-eq, drop-at}
-use lib.Dec.{leb}
-use borrow.Author.Tests.{leb-true}
-use Rattle.rules.specs.declared.FlashWord.{FlashWord}
 use Rattle.rules.specs.declared.Range.{Range}
 use Rattle.rules.specs.declared.Config.{Config}
 use Rattle.rules.specs.declared.State.{State}
-use Rattle.rules.specs.Code.{domains, flashWord, emptyRange, ordered}
-use Rattle.rules.specs.State.{goodState}
+use Rattle.rules.specs.Code.{domains, flashWord, emptyRange}
 use Rattle.rules.specs.Call.{low, high}
 use Rattle.rules.specs.Return.{wordAt}
 use Rattle.rules.specs.Script.{rangesAt}
 use Rattle.rules.specs.Slot.{slotBytes, rangesIn, boundIn, safepointerIn, domainIn, zeroIn, configIn, stateIn, wordBytes, rangesBytes, boundsBytes, slotOf, wordsAt}
-use Rattle.laws.proofs.Tests.{each}
-use Rattle.laws.proofs.Good.{GoodConfig, GoodState, goodState-facts}
 use Rattle.laws.proofs.Parts.{getD-sets-after}
-use Rattle.laws.proofs.Frames.{word-of-bytes, byte-at}
+use Rattle.laws.proofs.Frames.{word-of-bytes}
 
 -- ---- the two parts of a slot: the configuration, and what a call or a return changes with the byte 0 behind it
 
@@ -178,23 +171,6 @@ module _ (l : List ℕ) (size : length l ≡ slotBytes) (bytes : Bytes l) where
         let written : List ℕ = sets l boundIn (runBytes s′) in
         let still : getD written zeroIn 0 ≡ 0 = getD-sets-after l boundIn (runBytes s′) zeroIn 0 (omega arith) ∙ z in
         slotOf-over s′ same ∙ (rw still at (set-getD written zeroIn 0))
-
--- ---- the slot of a good state is of bytes
-
-append-bytes : (xs ys : List ℕ) → Bytes xs → Bytes ys → Bytes (xs ++ ys)
-append-bytes [] ys h g i = g i
-append-bytes (x ∷ xs) ys h g zero = h 0
-append-bytes (x ∷ xs) ys h g (suc i) = append-bytes xs ys (λ j. h (suc j)) g i
-
-ranges-bytes : (jt : FlashWord) (rs : List Range) → jt .0 < 65536 → ordered jt rs ≡ true → Bytes (rangesBytes rs)
-unfolding rangesBytes ordered
-ranges-bytes jt [] h o = byte-at [] tt
-ranges-bytes jt (r ∷ rs) h o =
-    let (a, (b, more)) = each (leb (r .start .0) (r .end .0)) (leb (r .end .0) (jt .0) ∷ ordered jt rs ∷ []) o in
-    let start≤end : r .start .0 ≤ r .end .0 = leb-true (r .start .0) (r .end .0) a in
-    let end≤jt : r .end .0 ≤ jt .0 = leb-true (r .end .0) (jt .0) b in
-    let pair : List ℕ = wordBytes (r .start .0) ++ wordBytes (r .end .0) in
-    append-bytes pair (rangesBytes rs) (byte-at pair (omega arith)) (ranges-bytes jt rs h more)
 
 -- ---- the words of a table of bytes
 

@@ -1,7 +1,7 @@
--- What a function called from C gives, from what the runtime gave it (document 02, Ask 1).
+-- What a function called from C gives, from what the operation gave it (document 02, Ask 1).
 -- Assumes nothing.
 use Prim.Native.Nat.{ℕ}
-use mathlib.Core.Path.{_≡_, refl, sym, ap, _∙_}
+use mathlib.Core.Path.{_≡_, refl, sym, _∙_}
 use mathlib.Core.Bool.{Bool, true, false, not}
 use mathlib.Core.List.{List, [], _∷_, _++_}
 use native.Mathlib.Omega.{arith}

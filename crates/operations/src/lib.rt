@@ -1,5 +1,5 @@
-// What each of the six operations does once RAM has its length and the state is good: the rows of section 5 below the first two. The
-// runtime and the layer for C make those two tests, each on the state as it comes to them.
+// What set-up and the six operations do once RAM has its length and the configuration or the state is good: the rows below the first two, for a
+// return below 13. The runtime and the layer for C make those tests, each on the state as it comes to them.
 ghost use mathlib.Core.Path.{_≡_};
 ghost use mathlib.Core.Bool.{true};
 ghost use Prim.Native.Nat.{_<_};

@@ -100,8 +100,8 @@ pub record Promise (h : History) : Type 0 where
   -- was if no trusted store was made to it
   pub stackStretch : (k : OpenCall) (x : ℕ) → AbovePointer k x → (from : History)
       → Stretch (λ l o. ((k ∈ openCalls l) ⊎ (k ∈ openCalls (l then o))) × (StoredBy l o x trusted → ⊥)) from h → byteAt h x ≡ byteAt from x
-  -- the configuration stays as it was given, the state stays good, and RAM stays 4,096 bytes, each below 256 if each was that RAM held
-  -- before set-up or that was to be stored
+  -- the configuration stays as it was given, the state stays good, and RAM stays 4,096 bytes; each stays below 256 if RAM held such bytes
+  -- before set-up and only such were to be stored
   pub sameConfig : stateOf h .config ≡ configOf h
   pub good : goodState (stateOf h) ≡ true
   pub size : length (ramOf h) ≡ ramBytes

@@ -1,7 +1,7 @@
 -- `operations::malloc_check::room` meets its contract. Assumes nothing.
 use mathlib.Core.Path.{sym, _∙_}
 use native.Mathlib.Omega.{arith}
-use borrow.Author.Tests.{eq-eqb, ne-eqb, not-false}
+use borrow.Author.Tests.{eq-eqb, ne-eqb}
 use Rattle.rules.specs.Memory.{blocksFor}
 use Rattle.rules.specs.Malloc.{lowestRun}
 use Rattle.laws.proofs.Blocks.{blocksFor-pos}

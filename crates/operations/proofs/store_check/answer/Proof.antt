@@ -1,8 +1,6 @@
 -- `operations::store_check::answer` meets its contract. Assumes nothing.
 use mathlib.Core.Path.{sym, _∙_}
-use Rattle.laws.proofs.Tests.{failed, passed}
 use Rattle.operations.proofs.StoreRows.{past-ram, by-trusted, below-bot, above-bound, on-stack, of-other, of-own, map-byte-inside}
-use borrow.Author.Needs.{needs}
 use Rattle.operations.proofs.store_check.answer.Statement.{statement}
 use Rattle.operations.proofs.store_check.answer.Tie as tie
 
