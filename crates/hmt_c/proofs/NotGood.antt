@@ -2,33 +2,26 @@
 -- Assumes nothing.
 use Prim.Native.Nat.{ℕ}
 use mathlib.Core.Path.{_≡_, refl}
-use mathlib.Core.Bool.{Bool, true, false, not}
+use mathlib.Core.Bool.{Bool, true, false}
 use mathlib.Core.List.{List}
 use lib.ListN.{length}
-use lib.Dec.{eqb}
 use borrow.Author.Tests.{eq-eqb}
 use Rattle.rules.specs.declared.RamByte.{RamByte}
 use Rattle.rules.specs.declared.FlashWord.{FlashWord}
 use Rattle.rules.specs.declared.State.{State}
 use Rattle.rules.specs.declared.Answer.{Answer}
 use Rattle.rules.specs.declared.Answer.the-variants.{Refused}
-use Rattle.rules.specs.declared.Refusal.the-variants.{WrongSize, BrokenRule, BadState, NoFrame}
+use Rattle.rules.specs.declared.Refusal.the-variants.{BrokenRule, BadState, NoFrame}
 use Rattle.rules.specs.Memory.{ramBytes}
 use Rattle.rules.specs.Code.{tableWords}
 use Rattle.rules.specs.State.{goodConfig, goodState}
-use Rattle.rules.specs.Answers.{_⇒_∣_, give}
+use Rattle.rules.specs.Answers.{give}
 use Rattle.rules.specs.Call.{callOf}
 use Rattle.rules.specs.Return.{returnOf}
 use Rattle.rules.specs.Slot.{configIn, stateIn, packed, GivesToC, wrongSize, cOperation, cSetUpOf, tableIn, cReturnOf}
+use Rattle.runtime.specs.FirstRows.{firstAbove}
 use Rattle.laws.proofs.Slot.{length-wordsAt}
 use Rattle.laws.proofs.ToC.{Ready, right-size, passed}
-
--- every operation's table begins with these two rows
-abbrev firstAbove : State → List ℕ → Answer → Answer
-firstAbove s ram below =
-    not (eqb (length ram) ramBytes) ⇒ WrongSize ∣
-    not (goodState s) ⇒ BadState ∣
-    below
 
 module _ (slot ram : List ℕ) (ready : Ready slot ram) (bad : goodState (stateIn slot) ≡ false) where
   pub not-good : (wrong : Bool) → wrong ≡ false → (n : ℕ) → n ≡ packed (Refused BadState) → (below : Answer) (s s′ : State) (ram′ : List ℕ)

@@ -20,10 +20,11 @@ use Rattle.laws.proofs.Tests.{failed, passed}
 use Rattle.laws.proofs.Good.{goodState-facts}
 use Rattle.laws.proofs.Slot.{length-wordsAt, getD-wordsAt}
 use Rattle.laws.proofs.ToC.{right-size, changed-to-c}
+use Rattle.operations.proofs.Acts.{gives-as}
 use Rattle.operations.proofs.CallRows.{call-by-word}
 use Rattle.operations.specs.CallRows.{tableOf}
 use Rattle.hmt_c.proofs.NotGood.{call-not-good}
-use Rattle.hmt_c.proofs.Handed.{handed, gives-as}
+use Rattle.hmt_c.proofs.Handed.{handed}
 use borrow.Author.Needs.{needs}
 use Rattle.hmt_c.proofs.hmt_call.Statement.{statement}
 use Rattle.hmt_c.proofs.hmt_call.Tie as tie
