@@ -2,7 +2,7 @@
 // for those where numbers come in from outside. A block is 8 bytes here and nowhere else in the code.
 ghost use mathlib.Core.Path.{_≡_};
 ghost use Prim.Native.Nat.{_+_, _-_, _*_, _≤_, _<_};
-ghost use Rattle.rules.specs.Memory.{startOf, blockOf, isMultiple, blocksFor, ramBytes};
+ghost use Rattle.rules.specs.Memory.{startOf, blockOf, isMultiple, dividedUp, blocksFor, ramBytes};
 ghost use Rattle.rules.specs.Code.{flashWord};
 ghost use Rattle.rules.specs.State.{ramByte};
 ghost use Rattle.rules.specs.Malloc.{block};
@@ -50,6 +50,14 @@ pub fn further(k: Block, n: u16) -> Block
     Block(k.0 + n)
 }
 
+// The block n before another.
+pub fn before(k: Block, n: u16) -> Block
+    requires { ⌜ n ≤ k .0 ⌝ }
+    ensures { λ r. ⌜ r ≡ block (k .0 - n) ⌝ }
+{
+    Block(k.0 - n)
+}
+
 // The first block of the protected range.
 pub fn first_block() -> Block
     ensures { λ r. ⌜ r ≡ block 0 ⌝ }
@@ -63,11 +71,19 @@ pub fn is_multiple(a: RamByte) -> bool
     a.0 % BLOCK_BYTES == 0
 }
 
-// How many blocks hold size bytes: rounded up, and the sum cannot pass 65535.
+// How many parts of d hold n, in numbers so wide that the sum can't pass them.
+fn divided_up(n: u16, d: u16) -> u16
+    requires { ⌜ 0 < d ⌝ }
+    ensures { λ r. ⌜ r ≡ dividedUp n d ⌝ }
+{
+    ((n as u32 + (d as u32 - 1)) / d as u32) as u16
+}
+
+// How many blocks hold size bytes.
 pub fn blocks_for(size: u16) -> u16
     ensures { λ r. ⌜ r ≡ blocksFor size ⌝ }
 {
-    size / BLOCK_BYTES + (size % BLOCK_BYTES + (BLOCK_BYTES - 1)) / BLOCK_BYTES
+    divided_up(size, BLOCK_BYTES)
 }
 
 // The byte n above another.

@@ -24,31 +24,26 @@ module _ (area : List ℕ) (used : ℕ) (some : 0 < used) (fits : used ≤ lengt
   tag-read : (t : ℕ) → getD area (used - 1) 0 ≡ t → getD (take used area) (used - 1) 0 ≡ t
   tag-read t e = let h : used - 1 < used = omega arith in rw getD-take e
 
-  word-read : (n k : ℕ) → n ≤ used → k + 1 ≡ n → 2 ≤ n
-      → wordAt (take used area) (used - n) ≡ getD area (used - n) 0 + 256 * getD area (used - k) 0
-  word-read n k l e m =
-      let i : used - n + 1 ≡ used - k = omega arith in
-      let g : used - n < used = omega arith in
-      let h : used - k < used = omega arith in
-      rw (i, getD-take used area (used - n) 0 g, getD-take used area (used - k) 0 h)
+  word-read : (i : ℕ) → i + 1 < used → wordAt (take used area) i ≡ wordAt area i
+  word-read i h = let g : i < used = omega arith in rw (getD-take used area i 0 g, getD-take used area (i + 1) 0 h)
 
-  pub local-read : (w : FlashWord) → getD area (used - 1) 0 ≡ localTag → 3 ≤ used
-      → w ≡ flashWord (getD area (used - 3) 0 + 256 * getD area (used - 2) 0) → Local w ≡ readFrame (take used area)
+  pub local-read : (w : FlashWord) → getD area (used - 1) 0 ≡ localTag → 3 ≤ used → w ≡ flashWord (wordAt area (used - 3))
+      → Local w ≡ readFrame (take used area)
   local-read w t l e =
-      rw e
-      (sym
-      (read-local (take used area) _ (rw many l) (rw many (tag-read localTag t)) (rw many (word-read 3 2 l (omega arith) (omega arith)))))
+      rw e (sym (read-local (take used area) _ (rw many l) (rw many (tag-read localTag t)) (rw many (word-read _ (omega arith)))))
 
   pub cross-read : (w : FlashWord) (b : RamByte) → getD area (used - 1) 0 ≤ trusted → 5 ≤ used
-      → w ≡ flashWord (getD area (used - 5) 0 + 256 * getD area (used - 4) 0)
-      → b ≡ ramByte (getD area (used - 3) 0 + 256 * getD area (used - 2) 0)
+      → w ≡ flashWord (wordAt area (used - 5))
+      → b ≡ ramByte (getD area (used - 5 + 2) 0 + 256 * getD area (used - 5 + 3) 0)
       → Cross w b (getD area (used - 1) 0) ≡ readFrame (take used area)
   cross-read w b t l e f =
-      rw (e, f)
+      let i : used - 5 + 2 ≡ used - 3 = omega arith in
+      let j : used - 5 + 3 ≡ used - 3 + 1 = omega arith in
+      rw (e, f, i, j)
       (sym
       (read-cross (take used area) _ _ (getD area (used - 1) 0) (rw many l) (rw many (tag-read _ refl)) t
-      (rw many (word-read 5 4 l (omega arith) (omega arith)))
-      (rw many (word-read 3 2 (omega arith) (omega arith) (omega arith)))))
+      (rw many (word-read _ (omega arith)))
+      (rw many (word-read _ (omega arith)))))
 
   pub local-short : getD area (used - 1) 0 ≡ localTag → used < 3 → Damage ≡ readFrame (take used area)
   unfolding readFrame

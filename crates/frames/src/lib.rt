@@ -34,26 +34,22 @@ fn push_local(area: &mut [u8], used: u16, site: FlashWord)
     requires { ⌜ (used + length (frameBytes (Local site)) ≤ length (now area)) × (length (now area) ≤ ramBytes) ⌝ }
     ensures { λ r. ⌜ now (area .exit) ≡ sets (now (area .entry)) used (frameBytes (Local site)) ⌝ }
 {
-    let second = used + 1;
-    let third = second + 1;
-    area[used as usize] = low(site.0);
-    area[second as usize] = high(site.0);
-    area[third as usize] = LOCAL_TAG;
+    let at = used as usize;
+    area[at] = low(site.0);
+    area[at + 1] = high(site.0);
+    area[at + 2] = LOCAL_TAG;
 }
 
 fn push_cross(area: &mut [u8], used: u16, site: FlashWord, bound: RamByte, domain: u8)
     requires { ⌜ (used + length (frameBytes (Cross site bound domain)) ≤ length (now area)) × (length (now area) ≤ ramBytes) ⌝ }
     ensures { λ r. ⌜ now (area .exit) ≡ sets (now (area .entry)) used (frameBytes (Cross site bound domain)) ⌝ }
 {
-    let second = used + 1;
-    let third = second + 1;
-    let fourth = third + 1;
-    let fifth = fourth + 1;
-    area[used as usize] = low(site.0);
-    area[second as usize] = high(site.0);
-    area[third as usize] = low(bound.0);
-    area[fourth as usize] = high(bound.0);
-    area[fifth as usize] = domain;
+    let at = used as usize;
+    area[at] = low(site.0);
+    area[at + 1] = high(site.0);
+    area[at + 2] = low(bound.0);
+    area[at + 3] = high(bound.0);
+    area[at + 4] = domain;
 }
 
 pub fn push(area: &mut [u8], used: u16, frame: Frame)
@@ -78,21 +74,17 @@ pub fn pop(area: &[u8], used: u16) -> Frame
             if used < LOCAL_BYTES {
                 return Frame::Damage;
             }
-            let site = address::word_of(
-                area[(used - LOCAL_BYTES) as usize],
-                area[(used - 2) as usize],
-            );
+            let at = (used - LOCAL_BYTES) as usize;
+            let site = address::word_of(area[at], area[at + 1]);
             return Frame::Local(site);
         }
         0..=7 => {
             if used < CROSS_BYTES {
                 return Frame::Damage;
             }
-            let site = address::word_of(
-                area[(used - CROSS_BYTES) as usize],
-                area[(used - 4) as usize],
-            );
-            let bound = address::byte_of(area[(used - 3) as usize], area[(used - 2) as usize]);
+            let at = (used - CROSS_BYTES) as usize;
+            let site = address::word_of(area[at], area[at + 1]);
+            let bound = address::byte_of(area[at + 2], area[at + 3]);
             return Frame::Cross(site, bound, tag);
         }
         _ => return Frame::Damage,

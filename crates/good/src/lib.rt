@@ -1,7 +1,7 @@
 // Whether a configuration and a state are good: sections 2 to 4, a function for each group of rules.
 ghost use mathlib.Core.Path.{_≡_};
 ghost use mathlib.Core.Bool.{_&&_};
-ghost use Rattle.rules.specs.State.{multiples, botBelowTop, mapBelowHeap, heapBelowSafe, safeBelowTop, topInRam, jtInFlash, goodConfig, domainGood, boundGood, safepointerGood, goodState};
+ghost use Rattle.rules.specs.State.{multiples, botBelowTop, mapBelowHeap, heapBelowSafe, safeBelowTop, topInRam, jtInFlash, rangesOrdered, rangesApart, goodConfig, domainGood, boundGood, safepointerGood, goodState};
 
 mod bounds;
 mod ranges;
@@ -26,6 +26,13 @@ pub fn good_bounds(config: Config) -> bool
         return false;
     }
     config.jt.0 <= LAST_JT
+}
+
+// Section 3's code ranges, in whatever order they lie.
+pub fn good_ranges(config: Config) -> bool
+    ensures { λ r. ⌜ r ≡ (rangesOrdered config && rangesApart config) ⌝ }
+{
+    ranges::in_any_order(config)
 }
 
 pub fn good_config(config: Config) -> bool

@@ -72,7 +72,7 @@ fn all_apart(config: Config) -> bool
     true
 }
 
-fn in_any_order(config: Config) -> bool
+pub fn in_any_order(config: Config) -> bool
     ensures { λ r. ⌜ r ≡ (rangesOrdered config && rangesApart config) ⌝ }
 {
     if !all_ordered(config) {

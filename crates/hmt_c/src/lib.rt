@@ -69,8 +69,10 @@ pub extern "C" fn hmt_store(ram: &mut [u8], slot: &mut [u8], address: u16, byte:
     if refusal != 0 {
         return refusal;
     }
-    if !slot::good_state(slot) {
-        return refused(Refusal::BadState);
+    if !slot::usual(slot) {
+        if !slot::good_state(slot) {
+            return refused(Refusal::BadState);
+        }
     }
     let outcome = operations::store(slot::state_in(slot), ram, ram_byte(address), byte);
     let given = outcome.answer;
@@ -95,8 +97,10 @@ pub extern "C" fn hmt_call(
     if refusal != 0 {
         return refusal;
     }
-    if !slot::good_state(slot) {
-        return refused(Refusal::BadState);
+    if !slot::usual(slot) {
+        if !slot::good_state(slot) {
+            return refused(Refusal::BadState);
+        }
     }
     let state = slot::state_in(slot);
     let at = table_word(state.config.jt, flash_word(target));
@@ -124,8 +128,10 @@ pub extern "C" fn hmt_return(ram: &mut [u8], slot: &mut [u8]) -> u32
     if refusal != 0 {
         return refusal;
     }
-    if !slot::good_state(slot) {
-        return refused(Refusal::BadState);
+    if !slot::usual(slot) {
+        if !slot::good_state(slot) {
+            return refused(Refusal::BadState);
+        }
     }
     let state = slot::state_in(slot);
     if state.safepointer.0 == state.config.safe.0 {
@@ -145,8 +151,10 @@ pub extern "C" fn hmt_malloc(ram: &mut [u8], slot: &mut [u8], size: u16) -> u32
     if refusal != 0 {
         return refusal;
     }
-    if !slot::good_state(slot) {
-        return refused(Refusal::BadState);
+    if !slot::usual(slot) {
+        if !slot::good_state(slot) {
+            return refused(Refusal::BadState);
+        }
     }
     let outcome = operations::malloc(slot::state_in(slot), ram, size);
     let given = outcome.answer;
@@ -161,8 +169,10 @@ pub extern "C" fn hmt_free(ram: &mut [u8], slot: &mut [u8], address: u16) -> u32
     if refusal != 0 {
         return refusal;
     }
-    if !slot::good_state(slot) {
-        return refused(Refusal::BadState);
+    if !slot::usual(slot) {
+        if !slot::good_state(slot) {
+            return refused(Refusal::BadState);
+        }
     }
     let outcome = operations::free(slot::state_in(slot), ram, ram_byte(address));
     let given = outcome.answer;
@@ -177,8 +187,10 @@ pub extern "C" fn hmt_change(ram: &mut [u8], slot: &mut [u8], address: u16, doma
     if refusal != 0 {
         return refusal;
     }
-    if !slot::good_state(slot) {
-        return refused(Refusal::BadState);
+    if !slot::usual(slot) {
+        if !slot::good_state(slot) {
+            return refused(Refusal::BadState);
+        }
     }
     let outcome = operations::change(slot::state_in(slot), ram, ram_byte(address), domain);
     let given = outcome.answer;

@@ -93,13 +93,6 @@ pub fn state_in(slot: &[u8]) -> State
     }
 }
 
-pub fn good_config(slot: &[u8]) -> bool
-    requires { ⌜ length (now slot) ≡ slotBytes ⌝ }
-    ensures { λ r. ⌜ r ≡ goodConfig (configIn (now (slot .entry))) ⌝ }
-{
-    good::good_config(config_in(slot))
-}
-
 // Code as it usually lies (see good::ranges::all_good), seen in the slot itself: modules rising, the trusted code before or after them.
 fn rising(slot: &[u8]) -> bool
     requires { ⌜ length (now slot) ≡ slotBytes ⌝ }
@@ -135,7 +128,35 @@ fn rising(slot: &[u8]) -> bool
     last <= word_at(slot, 8)
 }
 
-// Whether the state in the slot is good, with as little of it unpacked as can be: only code in another order costs the test of all pairs.
+// Whether the configuration in the slot is good: only code in another order is unpacked, for the test of all pairs.
+pub fn good_config(slot: &[u8]) -> bool
+    requires { ⌜ length (now slot) ≡ slotBytes ⌝ }
+    ensures { λ r. ⌜ r ≡ goodConfig (configIn (now (slot .entry))) ⌝ }
+{
+    if !good::good_bounds(config_in(slot)) {
+        return false;
+    }
+    if rising(slot) {
+        return true;
+    }
+    good::good_ranges(config_in(slot))
+}
+
+// Whether the state in the slot is good and its code as it usually lies.
+pub fn usual(slot: &[u8]) -> bool
+    requires { ⌜ length (now slot) ≡ slotBytes ⌝ }
+    ensures { λ r. ⌜ (r ≡ true → goodState (stateIn (now (slot .entry))) ≡ true) ⌝ }
+{
+    if !good::good_run(state_in(slot)) {
+        return false;
+    }
+    if !good::good_bounds(config_in(slot)) {
+        return false;
+    }
+    rising(slot)
+}
+
+// Whether the state in the slot is good, however its code lies.
 pub fn good_state(slot: &[u8]) -> bool
     requires { ⌜ length (now slot) ≡ slotBytes ⌝ }
     ensures { λ r. ⌜ r ≡ goodState (stateIn (now (slot .entry))) ⌝ }
@@ -146,10 +167,7 @@ pub fn good_state(slot: &[u8]) -> bool
     if !good::good_bounds(config_in(slot)) {
         return false;
     }
-    if rising(slot) {
-        return true;
-    }
-    good_config(slot)
+    good::good_ranges(config_in(slot))
 }
 
 // The code range of a domain.

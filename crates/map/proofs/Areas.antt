@@ -1,18 +1,38 @@
--- The map as set-up writes it, area by area: the blocks below the heap, the heap, the safe stack area, the unused half of the last byte.
+-- The map as set-up writes it, one layer over another: a code for all places, that of the first block, the heap, the first block of the safe
+-- stack area, the unused half of the last byte.
 -- Assumes nothing.
-use Prim.Native.Nat.{ℕ, zero, suc, _+_, _-_, _*_, _%_, _≤_, _<_}
+use Prim.Native.Nat.{ℕ, _+_, _-_, _*_, _%_, _≤_, _<_}
 use mathlib.Core.Path.{_≡_, refl, sym, _∙_}
 use mathlib.Core.List.{List, [], _∷_}
-use native.Mathlib.Nat.{add-zero, sub-zero}
+use mathlib.Core.Logic.{_≢_}
 use native.Mathlib.Decide.{ℕ-discrete}
 use native.Mathlib.Omega.{arith}
+use lib.Dec.{leb, ltb}
 use lib.ListN.{length, getD, replicate, length-replicate, getD-replicate}
-use borrow.Author.Tests.{eq-eqb, ne-eqb, lt-ltb, le-ltb}
+use lib.Seq.{ext-getD}
+use borrow.Author.Tests.{eq-eqb, ne-eqb, lt-ltb, le-ltb, ltb-true, ltb-false, leb-true, leb-false}
+use Rattle.rules.specs.declared.RamByte.{RamByte}
 use Rattle.rules.specs.declared.Config.{Config}
-use Rattle.rules.specs.Memory.{dividedUp, blocks, heapBlock, safeBlock, mapBytes, mapBytesFor, perByte, setCode, setCodes, startCode, laterCode, freeCode, segmentCodes, trusted}
+use Rattle.rules.specs.Memory.{ramBytes, radix, dividedUp, blocks, heapBlock, safeBlock, mapBytes, mapBytesFor, perByte, mapByte, codeOf, setCode, setCodes, startCode, laterCode, freeCode, trusted}
 use Rattle.rules.specs.SetUp.{setUpCode, setUpCodes, setUpRam}
-use Rattle.laws.proofs.Codes.{length-segmentCodes, getD-segmentCodes-first, getD-segmentCodes-later, setUpCode-heap, start-trusted}
-use Rattle.laws.proofs.Good.{GoodConfig, heapBlock-pos, heapBlock≤safeBlock, safeBlock≤blocks}
+use Rattle.laws.proofs.AllBelow.{all-replicate}
+use Rattle.laws.proofs.Codes.{startCode-lt, laterCode-lt, freeCode-lt, length-setUpCodes, setUpCode-heap, start-trusted}
+use Rattle.laws.proofs.Good.{GoodConfig, heapBlock-pos, heapBlock≤safeBlock, safeBlock≤blocks, place<heap}
+use Rattle.laws.proofs.Map.{Bytes, code-same, code-other, length-setCode, length-setCodes, setCodes-outside, codes-inside, codes-outside, byte-by-codes}
+use Rattle.laws.proofs.SetUp.{length-setUpRam, setUpRam-bytes, setUpRam-code}
+use Rattle.laws.proofs.Tests.{byTest}
+
+-- ---- a run of one code
+
+module _ (bot : RamByte) (ram : List ℕ) (k n v j : ℕ) (small : v < radix) where
+  in-run : k ≤ j → j < k + n → mapByte bot j < length ram → codeOf bot (setCodes bot ram k (replicate n v)) j ≡ v
+  in-run from to inside =
+      let at : k + (j - k) ≡ j = omega arith in
+      (rw at at (codes-inside bot ram k (replicate n v) (j - k) (all-replicate radix n v small) (rw length-replicate (omega arith)) (rw at inside)))
+      ∙ getD-replicate n (j - k) v 0 (omega arith)
+
+  out-of-run : (k ≤ j → k + n ≤ j) → codeOf bot (setCodes bot ram k (replicate n v)) j ≡ codeOf bot ram j
+  out-of-run out = codes-outside bot ram k (replicate n v) j (all-replicate radix n v small) (rw length-replicate out)
 
 module _ (c : Config) where
   -- ---- the code of a place
@@ -44,69 +64,123 @@ module _ (c : Config) where
         | no d ↦ rw (ne-eqb k 0 (omega arith), le-ltb k (heapBlock c) (omega arith), le-ltb k (safeBlock c) l, ne-eqb k (safeBlock c) d, le-ltb k (blocks c) u)
       ]
 
-  -- ---- the codes of an area, and those that are left
-
-  area : (ram : List ℕ) (k n : ℕ) (vs : List ℕ) → length vs ≤ n → ((i : ℕ) → i < length vs → getD vs i 0 ≡ setUpCode c (k + i))
-      → setCodes (c .bot) ram k (setUpCodes c k n)
-      ≡ setCodes (c .bot) (setCodes (c .bot) ram k vs) (k + length vs) (setUpCodes c (k + length vs) (n - length vs))
-  unfolding setCodes setUpCodes
-  area ram k n [] fits same = rw (add-zero, sub-zero)
-  area ram k zero (v ∷ vs) fits same = absurd (omega arith)
-  area ram k (suc n) (v ∷ vs) fits same =
-      let first : v ≡ setUpCode c k = rw add-zero at (same 0 (omega arith)) in
-      let to : k + suc (length vs) ≡ suc k + length vs = omega arith in
-      let left : suc n - suc (length vs) ≡ n - length vs = omega arith in
-      rw (← first, to, left)
-      (area (setCode (c .bot) ram k v) (suc k) n vs (omega arith)
-      (λ i l. let next : k + suc i ≡ suc k + i = omega arith in rw next at (same (suc i) (omega arith))))
-
-  module _ (ram : List ℕ) (k to places : ℕ) (from : k ≤ to) (fits : to ≤ places) where
-    -- the area's codes are vs
-    codes-area : (vs : List ℕ) → length vs ≡ to - k → ((i : ℕ) → i < to - k → getD vs i 0 ≡ setUpCode c (k + i))
-        → setCodes (c .bot) ram k (setUpCodes c k (places - k)) ≡ setCodes (c .bot) (setCodes (c .bot) ram k vs) to (setUpCodes c to (places - to))
-    codes-area vs many same =
-        let end : k + (to - k) ≡ to = omega arith in
-        let left : places - k - (to - k) ≡ places - to = omega arith in
-        rw (many, end, left) at (area ram k (places - k) vs (omega arith) (rw many same))
-
-    free-area : ((j : ℕ) → k ≤ j → j < to → setUpCode c j ≡ freeCode)
-        → setCodes (c .bot) ram k (setUpCodes c k (places - k))
-        ≡ setCodes (c .bot) (setCodes (c .bot) ram k (replicate (to - k) freeCode)) to (setUpCodes c to (places - to))
-    free-area free =
-        codes-area (replicate (to - k) freeCode) (length-replicate (to - k) freeCode)
-        (λ i l. getD-replicate (to - k) i freeCode 0 l ∙ sym (free (k + i) (omega arith) (omega arith)))
-
-    trusted-area : (k < to → setUpCode c k ≡ startCode trusted) → ((j : ℕ) → k < j → j < to → setUpCode c j ≡ laterCode trusted)
-        → setCodes (c .bot) ram k (setUpCodes c k (places - k))
-        ≡ setCodes (c .bot) (setCodes (c .bot) ram k (segmentCodes trusted (to - k))) to (setUpCodes c to (places - to))
-    trusted-area first later = codes-area (segmentCodes trusted (to - k)) (length-segmentCodes trusted (to - k)) same
-      where
-        same : (i : ℕ) → i < to - k → getD (segmentCodes trusted (to - k)) i 0 ≡ setUpCode c (k + i)
-        same zero l = rw add-zero (getD-segmentCodes-first trusted (to - k) l ∙ sym (first (omega arith)))
-        same (suc i) l = getD-segmentCodes-later trusted (to - k) i l ∙ sym (later (k + suc i) (omega arith) (omega arith))
-
-  -- ---- the four areas
+  -- ---- what the map's codes and the bytes beside it decide
 
   places : mapBytes c * perByte ≡ blocks c + blocks c % 2
   unfolding mapBytes mapBytesFor dividedUp perByte
   places = omega arith
 
-  pub set-up-areas : (ram below heap stack whole : List ℕ) → GoodConfig c
-      → below ≡ setCodes (c .bot) ram 0 (segmentCodes trusted (heapBlock c))
-      → heap ≡ setCodes (c .bot) below (heapBlock c) (replicate (safeBlock c - heapBlock c) freeCode)
-      → stack ≡ setCodes (c .bot) heap (safeBlock c) (segmentCodes trusted (blocks c - safeBlock c))
-      → whole ≡ setCodes (c .bot) stack (blocks c) (replicate (blocks c % 2) freeCode) → whole ≡ setUpRam c ram
-  unfolding setUpRam setCodes setUpCodes
-  set-up-areas ram below heap stack whole g e₁ e₂ e₃ e₄ =
-      let some : 0 < heapBlock c = heapBlock-pos g in
-      let heap≤safe : heapBlock c ≤ safeBlock c = heapBlock≤safeBlock g in
-      let safe≤end : safeBlock c ≤ blocks c = safeBlock≤blocks g in
-      let all : ℕ = blocks c + blocks c % 2 in
-      let half : all - blocks c ≡ blocks c % 2 = omega arith in
-      let none : all - all ≡ 0 = omega arith in
-      let first = trusted-area ram 0 (heapBlock c) all (omega arith) (omega arith) (λ _. code-first) code-below in
-      let second = free-area below (heapBlock c) (safeBlock c) all heap≤safe (omega arith) (λ j l u. setUpCode-heap c j some l u) in
-      let third = trusted-area heap (safeBlock c) (blocks c) all safe≤end (omega arith) (λ _. code-safe some heap≤safe) (λ j l u. code-stack j heap≤safe l u) in
-      let fourth = free-area stack (blocks c) all all (omega arith) (omega arith) (λ j l u. code-unused j some heap≤safe (omega arith) l) in
-      rw places
-      (sym ((rw (sub-zero all, sub-zero (heapBlock c), ← e₁) at first) ∙ (rw (← e₂) at second) ∙ (rw (← e₃) at third) ∙ (rw none at fourth) ∙ sym (rw (← half) at e₄)))
+  is-set-up : (ram whole : List ℕ) → GoodConfig c → length ram ≡ ramBytes → Bytes ram → Bytes whole → length whole ≡ length ram
+      → ((i : ℕ) → (c .bot .0 ≤ i → c .bot .0 + mapBytes c ≤ i) → getD whole i 0 ≡ getD ram i 0)
+      → ((k : ℕ) → k < mapBytes c * perByte → codeOf (c .bot) whole k ≡ setUpCode c k) → whole ≡ setUpRam c ram
+  unfolding setUpRam mapByte perByte
+  is-set-up ram whole g sized bytes bytes′ same beside codes =
+      ext-getD 0 whole (setUpRam c ram) (same ∙ sym (length-setUpRam c ram))
+      (λ i _. byTest (leb (c .bot .0) i)
+      (λ t. byTest (ltb i (c .bot .0 + mapBytes c))
+      (λ u. byte-by-codes (c .bot) whole (setUpRam c ram) i (leb-true _ _ t) (bytes′ i) (setUpRam-bytes c ram bytes i)
+      (λ k e. let l : k < mapBytes c * 2 = omega (arith, ltb-true i (c .bot .0 + mapBytes c) u) in codes k l ∙ sym (setUpRam-code c ram g sized k l)))
+      (λ u. other i (λ _. ltb-false _ _ u)))
+      (λ t. other i (λ h. absurd (omega (arith, leb-false (c .bot .0) i t)))))
+    where
+      other : (i : ℕ) → (c .bot .0 ≤ i → c .bot .0 + mapBytes c ≤ i) → getD whole i 0 ≡ getD (setUpRam c ram) i 0
+      other i out = beside i out ∙ sym (setCodes-outside (c .bot) ram 0 (setUpCodes c 0 (mapBytes c * perByte)) (mapBytes c) i (rw length-setUpCodes (omega arith)) out)
+
+  -- ---- the layers
+
+  module _ (g : GoodConfig c) (ram all first heap stack whole : List ℕ) (sized : length ram ≡ ramBytes)
+      (e₁ : all ≡ setCodes (c .bot) ram 0 (replicate (mapBytes c * perByte) (laterCode trusted)))
+      (e₂ : first ≡ setCode (c .bot) all 0 (startCode trusted))
+      (e₃ : heap ≡ setCodes (c .bot) first (heapBlock c) (replicate (safeBlock c - heapBlock c) freeCode))
+      (e₄ : safeBlock c < blocks c → stack ≡ setCode (c .bot) heap (safeBlock c) (startCode trusted)) (e₅ : blocks c ≤ safeBlock c → stack ≡ heap)
+      (e₆ : whole ≡ setCodes (c .bot) stack (blocks c) (replicate (blocks c % 2) freeCode)) where
+    start-lt : startCode trusted < radix
+    start-lt = startCode-lt trusted (omega arith)
+
+    later-lt : laterCode trusted < radix
+    later-lt = laterCode-lt trusted (omega arith)
+
+    in-ram : (x : List ℕ) (j : ℕ) → length x ≡ ramBytes → j < mapBytes c * perByte → mapByte (c .bot) j < length x
+    in-ram x j l h = rw l (omega (arith, place<heap g h, g .heap≤safe, g .safe≤top, g .top≤ram))
+
+    length-all : length all ≡ ramBytes
+    length-all = rw e₁ (length-setCodes (c .bot) ram 0 _ ∙ sized)
+
+    length-first : length first ≡ ramBytes
+    length-first = rw e₂ (length-setCode (c .bot) all 0 _ ∙ length-all)
+
+    length-heap : length heap ≡ ramBytes
+    length-heap = rw e₃ (length-setCodes (c .bot) first (heapBlock c) _ ∙ length-first)
+
+    -- the layer of the safe stack area's first block is there, or not
+    stack-is : {A : Type 0} → (safeBlock c < blocks c → stack ≡ setCode (c .bot) heap (safeBlock c) (startCode trusted) → A) → (blocks c ≤ safeBlock c → stack ≡ heap → A) → A
+    stack-is there none = byTest (ltb (safeBlock c) (blocks c)) (λ t. there (ltb-true _ _ t) (e₄ (ltb-true _ _ t))) (λ t. none (ltb-false _ _ t) (e₅ (ltb-false _ _ t)))
+
+    length-stack : length stack ≡ ramBytes
+    length-stack = stack-is (λ _ e. rw e (length-setCode (c .bot) heap (safeBlock c) _ ∙ length-heap)) (λ _ e. rw e length-heap)
+
+    length-whole : length whole ≡ length ram
+    length-whole = rw e₆ (length-setCodes (c .bot) stack (blocks c) _ ∙ length-stack ∙ sym sized)
+
+    -- each layer's codes, and those that show through it
+    under-first : (j : ℕ) → 0 < j → j < mapBytes c * perByte → codeOf (c .bot) first j ≡ laterCode trusted
+    under-first j p h =
+        rw e₂ (code-other (c .bot) all 0 _ j start-lt (omega arith) ∙ rw e₁ (in-run (c .bot) ram 0 (mapBytes c * perByte) (laterCode trusted) j later-lt (omega arith) (omega arith) (in-ram ram j sized h)))
+
+    under-heap : (j : ℕ) → (heapBlock c ≤ j → safeBlock c ≤ j) → codeOf (c .bot) heap j ≡ codeOf (c .bot) first j
+    under-heap j out = rw e₃ (out-of-run (c .bot) first (heapBlock c) (safeBlock c - heapBlock c) freeCode j freeCode-lt (λ h. omega (arith, out h, heapBlock≤safeBlock g)))
+
+    under-stack : (j : ℕ) → j ≢ safeBlock c → codeOf (c .bot) stack j ≡ codeOf (c .bot) heap j
+    under-stack j other = stack-is (λ _ e. rw e (code-other (c .bot) heap (safeBlock c) _ j start-lt (λ f. other (sym f)))) (λ _ e. rw e refl)
+
+    under-half : (j : ℕ) → j < blocks c → codeOf (c .bot) whole j ≡ codeOf (c .bot) stack j
+    under-half j h = rw e₆ (out-of-run (c .bot) stack (blocks c) (blocks c % 2) freeCode j freeCode-lt (λ l. absurd (omega arith)))
+
+    in-heap : (j : ℕ) → heapBlock c ≤ j → j < safeBlock c → j < mapBytes c * perByte → codeOf (c .bot) heap j ≡ freeCode
+    in-heap j l u h = rw e₃ (in-run (c .bot) first (heapBlock c) (safeBlock c - heapBlock c) freeCode j freeCode-lt l (omega arith) (in-ram first j length-first h))
+
+    codes : (j : ℕ) → j < mapBytes c * perByte → codeOf (c .bot) whole j ≡ setUpCode c j
+    codes j h =
+        let some = heapBlock-pos g in
+        let order = heapBlock≤safeBlock g in
+        byTest (ltb j (blocks c))
+        (λ t. under-half j (ltb-true _ _ t) ∙ elim (ℕ-discrete j (safeBlock c)) [
+          | yes e ↦
+              let l : safeBlock c < blocks c = omega (arith, ltb-true j (blocks c) t) in
+              rw e (rw (e₄ l) (code-same (c .bot) heap (safeBlock c) _ (in-ram heap (safeBlock c) length-heap (rw e at h)) start-lt) ∙ sym (code-safe some order))
+          | no d ↦ under-stack j d ∙ byTest (ltb j (heapBlock c))
+              (λ u. under-heap j (λ l. absurd (omega (arith, ltb-true j (heapBlock c) u))) ∙ elim (ℕ-discrete j 0) [
+                | yes z ↦ rw z (rw e₂ (code-same (c .bot) all 0 _ (in-ram all 0 length-all (rw z at h)) start-lt) ∙ sym code-first)
+                | no p ↦ under-first j (omega arith) h ∙ sym (code-below j (omega arith) (ltb-true _ _ u))
+              ])
+              (λ u. byTest (ltb j (safeBlock c))
+              (λ v. in-heap j (ltb-false _ _ u) (ltb-true _ _ v) h ∙ sym (setUpCode-heap c j some (ltb-false _ _ u) (ltb-true _ _ v)))
+              (λ v. under-heap j (λ _. ltb-false _ _ v) ∙ under-first j (omega (arith, ltb-false j (safeBlock c) v)) h
+              ∙ sym (code-stack j order (omega (arith, ltb-false j (safeBlock c) v)) (ltb-true _ _ t))))
+        ])
+        (λ t. let l : blocks c ≤ j = ltb-false j (blocks c) t in
+        rw e₆ (in-run (c .bot) stack (blocks c) (blocks c % 2) freeCode j freeCode-lt l (omega (arith, places)) (in-ram stack j length-stack h))
+        ∙ sym (code-unused j some order (omega (arith, safeBlock≤blocks g)) l))
+
+    -- no layer reaches beyond the map
+    module _ (i : ℕ) (out : c .bot .0 ≤ i → c .bot .0 + mapBytes c ≤ i) where
+      code-beside : (x : List ℕ) (k v : ℕ) → k < mapBytes c * perByte → getD (setCode (c .bot) x k v) i 0 ≡ getD x i 0
+      unfolding setCodes
+      code-beside x k v h = setCodes-outside (c .bot) x k (v ∷ []) (mapBytes c) i (omega arith) out
+
+      run-beside : (x : List ℕ) (k n v : ℕ) → k + n ≤ mapBytes c * perByte → getD (setCodes (c .bot) x k (replicate n v)) i 0 ≡ getD x i 0
+      run-beside x k n v h = setCodes-outside (c .bot) x k (replicate n v) (mapBytes c) i (rw length-replicate h) out
+
+      beside : getD whole i 0 ≡ getD ram i 0
+      beside =
+          let some = heapBlock-pos g in
+          let order = heapBlock≤safeBlock g in
+          let room = safeBlock≤blocks g in
+          let half : getD whole i 0 ≡ getD stack i 0 = rw e₆ (run-beside stack (blocks c) (blocks c % 2) freeCode (omega (arith, places))) in
+          let top : getD stack i 0 ≡ getD heap i 0 = stack-is (λ l e. rw e (code-beside heap (safeBlock c) _ (omega (arith, places)))) (λ _ e. rw e refl) in
+          let middle : getD heap i 0 ≡ getD first i 0 = rw e₃ (run-beside first (heapBlock c) (safeBlock c - heapBlock c) freeCode (omega (arith, places))) in
+          let low : getD first i 0 ≡ getD all i 0 = rw e₂ (code-beside all 0 _ (omega (arith, places))) in
+          half ∙ top ∙ middle ∙ low ∙ rw e₁ (run-beside ram 0 (mapBytes c * perByte) (laterCode trusted) (omega arith))
+
+    pub set-up-layers : Bytes ram → Bytes whole → whole ≡ setUpRam c ram
+    set-up-layers bytes bytes′ = is-set-up ram whole g sized bytes bytes′ length-whole beside codes

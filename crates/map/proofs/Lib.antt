@@ -2,4 +2,5 @@
 pub mod Areas
 pub mod Halves
 pub mod Runs
+pub mod Search
 pub mod Within

@@ -1,10 +1,8 @@
 -- The steps of the loops over a run of blocks: what is left of a list of codes decides what RAM becomes.
 -- Assumes nothing.
-use Prim.Native.Nat.{ℕ, zero, suc, _+_, _-_, _*_, _/_, _%_, _≤_, _<_}
+use Prim.Native.Nat.{ℕ, suc, _+_, _-_, _*_, _/_, _%_, _≤_, _<_}
 use mathlib.Core.Path.{_≡_, refl, sym, ap, _∙_}
-use mathlib.Core.Bool.{true, false}
 use mathlib.Core.List.{List, [], _∷_, _++_}
-use native.Mathlib.Nat.{add-zero}
 use native.Mathlib.Decide.{ℕ-discrete}
 use native.Mathlib.Omega.{arith}
 use mathlib.Core.Logic.{_≢_}
@@ -14,15 +12,11 @@ use lib.Seq.{getD-set-same, getD-set-other}
 use borrow.Author.Tests.{ltb-true, ltb-false}
 use Rattle.rules.specs.declared.RamByte.{RamByte}
 use Rattle.rules.specs.declared.Config.{Config}
-use Rattle.rules.specs.declared.Found.the-variants.{At}
-use Rattle.rules.specs.Memory.{radix, perByte, heapBlock, safeBlock, mapByte, mapDigit, codeOf, setCode, setCodes, laterCode, freeCode, ownerOf, isFree}
+use Rattle.rules.specs.Memory.{perByte, safeBlock, mapByte, mapDigit, codeOf, setCode, setCodes, laterCode, ownerOf}
 use Rattle.rules.specs.State.{ramByte}
-use Rattle.rules.specs.Malloc.{block, freeRun, firstRun}
 use Rattle.rules.specs.Free.{segmentBlocks}
 use Rattle.laws.proofs.Tests.{byTest}
-use Rattle.laws.proofs.Codes.{laterCode-lt, ownerOf-le}
-use Rattle.laws.proofs.Map.{Bytes, code-lt, setCodes-append}
-use Rattle.laws.proofs.Search.{free-block, block-free, free-run, search-here, search-skip}
+use Rattle.laws.proofs.Map.{Bytes, setCodes-append}
 use Rattle.laws.proofs.Segments.{segment-is}
 use Rattle.map.proofs.Halves.{set-both}
 
@@ -74,6 +68,14 @@ run-odd bot ram k n v odd =
     setCodes-append bot ram k (replicate (n / 2 * 2) v) (replicate 1 v) ∙ rw length-replicate in
     rw last (sym parts ∙ ap (setCodes bot ram k) (replicate-append-replicate (n / 2 * 2) 1 v ∙ ap (λ (m : ℕ). replicate m v) (sym all)))
 
+-- the first m blocks, and those that are left
+pub run-parts : (bot : RamByte) (ram : List ℕ) (k m n v : ℕ) → m ≤ n
+    → setCodes bot (setCodes bot ram k (replicate m v)) (k + m) (replicate (n - m) v) ≡ setCodes bot ram k (replicate n v)
+run-parts bot ram k m n v fits =
+    let all : m + (n - m) ≡ n = omega arith in
+    sym ((rw length-replicate at (setCodes-append bot ram k (replicate m v) (replicate (n - m) v))))
+    ∙ ap (setCodes bot ram k) (replicate-append-replicate m (n - m) v ∙ ap (λ (i : ℕ). replicate i v) all)
+
 -- the first block, and those that are left
 pub run-first : (bot : RamByte) (ram : List ℕ) (k first : ℕ) (vs : List ℕ) → setCodes bot (setCode bot ram k first) (k + 1) vs ≡ setCodes bot ram k (first ∷ vs)
 unfolding setCodes
@@ -81,8 +83,9 @@ run-first bot ram k first vs = let next : suc k ≡ k + 1 = omega arith in rw (�
 
 -- ---- counting a segment of n blocks from block k on: those before block from continue it, and so do m more
 
-pub later-lt : (bot : RamByte) (ram : List ℕ) (k later : ℕ) → later ≡ laterCode (ownerOf (codeOf bot ram k)) → later < radix
-later-lt bot ram k later e = rw e (laterCode-lt (ownerOf (codeOf bot ram k)) (ownerOf-le (codeOf bot ram k) (code-lt bot ram k)))
+-- behind block next, which is counted if it is odd, comes an even one
+pub even-fits : (next end : ℕ) → next ≤ end → (next % 2 ≢ 0 → next ≢ end) → next + next % 2 ≤ end
+even-fits next end h odd = elim (ℕ-discrete (next % 2) 0) [ yes e ↦ omega arith | no d ↦ omega (arith, odd d) ]
 
 pub segment-count : (c : Config) (ram : List ℕ) (k n from m later : ℕ) → later ≡ laterCode (ownerOf (codeOf (c .bot) ram k))
     → k < from → k + n ≡ from + m → from + m ≤ safeBlock c → ((j : ℕ) → k < j → j < from → codeOf (c .bot) ram j ≡ later)
@@ -92,40 +95,3 @@ segment-count c ram k n from m later code some all fits before more stop =
     sym (segment-is c ram _ k n refl (omega arith) (omega arith)
     (λ j l u. rw (← code) (byTest (ltb j from) (λ t. before j l (ltb-true j from t)) (λ t. more j (ltb-false j from t) (omega arith))))
     (λ h. rw (← code, all) (stop (omega arith))))
-
--- ---- looking for n free blocks in a row, of which run are found from block k on
-
-module _ (c : Config) (ram : List ℕ) where
-  not-free : (j : ℕ) → codeOf (c .bot) ram j ≢ freeCode → isFree c ram j ≡ false
-  not-free j other = byTest (isFree c ram j) (λ t. absurd (other (free-block c ram j t .2))) (λ t. t)
-
-  pub codes-free : (k n : ℕ) → heapBlock c ≤ k → k + n ≤ safeBlock c → ((j : ℕ) → k ≤ j → j < k + n → codeOf (c .bot) ram j ≡ freeCode)
-      → freeRun c ram k n ≡ true
-  codes-free k n from to free = free-run c ram n k (λ j l u. block-free c ram j (omega arith) (omega arith) (free j l u))
-
-  pub run-found : (n k : ℕ) → freeRun c ram k n ≡ true → k < safeBlock c → firstRun c ram n k (safeBlock c - k) ≡ At (block k)
-  run-found n k free h = let left : safeBlock c - k ≡ suc (safeBlock c - (k + 1)) = omega arith in rw left (search-here c ram n k (safeBlock c - (k + 1)) free)
-
-  -- the next start is behind a block that is not free
-  run-broken : (n k run : ℕ) → run < n → codeOf (c .bot) ram (k + run) ≢ freeCode
-      → firstRun c ram n k (safeBlock c - k) ≡ firstRun c ram n (k + (run + 1)) (safeBlock c - (k + (run + 1)))
-  run-broken n k run h other =
-      let next : suc (k + run) ≡ k + (run + 1) = omega arith in
-      let left : safeBlock c - k - (suc (k + run) - k) ≡ safeBlock c - (k + (run + 1)) = omega arith in
-      search-skip c ram n k (safeBlock c - k) (k + run) (omega arith) (omega arith) (not-free (k + run) other) ∙ rw (left, next)
-
-  -- and behind m blocks that are not free
-  skip-used : (n m k : ℕ) → 0 < n → ((j : ℕ) → k ≤ j → j < k + m → codeOf (c .bot) ram j ≢ freeCode)
-      → firstRun c ram n k (safeBlock c - k) ≡ firstRun c ram n (k + m) (safeBlock c - (k + m))
-  skip-used n zero k p used = rw add-zero
-  skip-used n (suc m) k p used =
-      let on : k + 1 + m ≡ k + suc m = omega arith in
-      run-broken n k 0 p (rw add-zero (used k (omega arith) (omega arith)))
-      ∙ (rw on at (skip-used n m (k + 1) p (λ j l u. used j (omega arith) (omega arith))))
-
-  pub run-used : (n k run m : ℕ) → run < n → 0 < m → ((j : ℕ) → k + run ≤ j → j < k + run + m → codeOf (c .bot) ram j ≢ freeCode)
-      → firstRun c ram n k (safeBlock c - k) ≡ firstRun c ram n (k + run + m) (safeBlock c - (k + run + m))
-  run-used n k run m h some used =
-      let on : k + (run + 1) + (m - 1) ≡ k + run + m = omega arith in
-      run-broken n k run h (used (k + run) (omega arith) (omega arith))
-      ∙ (rw on at (skip-used n (m - 1) (k + (run + 1)) (omega arith) (λ j l u. used j (omega arith) (omega arith))))

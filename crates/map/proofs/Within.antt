@@ -6,9 +6,9 @@ use mathlib.Core.Bool.{true}
 use native.Mathlib.Omega.{arith}
 use Rattle.rules.specs.declared.RamByte.{RamByte}
 use Rattle.rules.specs.declared.Config.{Config}
-use Rattle.rules.specs.Memory.{ramBytes, startOf, blockOf, dividedUp, blocks, safeBlock, mapBytes, mapBytesFor, perByte, mapByte}
+use Rattle.rules.specs.Memory.{ramBytes, blockBytes, startOf, blockOf, dividedUp, blocks, safeBlock, mapBytes, mapBytesFor, perByte, mapByte}
 use Rattle.rules.specs.State.{goodConfig}
-use Rattle.laws.proofs.Good.{GoodConfig, goodConfig-facts, bot<heap, blocks≤ram, safeBlock≤blocks, to-safe, block-fits, mapByte<heap}
+use Rattle.laws.proofs.Good.{GoodConfig, goodConfig-facts, bot<heap, blocks≤ram, safeBlock≤blocks, to-safe, block-fits}
 
 module _ (c : Config) (good : goodConfig c ≡ true) where
   facts : GoodConfig c
@@ -26,9 +26,10 @@ module _ (c : Config) (good : goodConfig c ≡ true) where
   pub safeBlock≤ram : safeBlock c ≤ ramBytes
   safeBlock≤ram = omega (arith, safeBlock≤blocks facts, blocks≤ram facts)
 
-  -- a code of a block before the safe stack area lies in RAM
-  pub code<ram : (k : ℕ) → k < safeBlock c → mapByte (c .bot) k < ramBytes
-  code<ram k h = omega (arith, mapByte<heap facts {k = k} (omega (arith, safeBlock≤blocks facts)), facts .heap≤safe, facts .safe≤top, facts .top≤ram)
+  -- a code of a block up to the first of the safe stack area lies in RAM
+  pub code<ram : (k : ℕ) → k ≤ safeBlock c → mapByte (c .bot) k < ramBytes
+  unfolding safeBlock blockOf blockBytes mapByte perByte
+  code<ram k h = omega (arith, bot<heap facts, facts .heap≤safe, facts .safe≤top, facts .top≤ram)
 
   -- the bytes for the places before k lie in RAM
   pub room : (k : ℕ) → k ≤ blocks c + blocks c % 2 → c .bot .0 + mapBytesFor k ≤ ramBytes

@@ -1,3 +1,2 @@
--- What the map's functions say to each other, and where malloc's search ends.
-pub mod Look
+-- Where malloc's search ends.
 pub mod Runs

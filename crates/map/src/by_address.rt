@@ -5,7 +5,7 @@ ghost use mathlib.Core.Path.{_≡_};
 ghost use Prim.Native.Nat.{_+_, _-_, _≤_, _<_};
 ghost use lib.Dec.{eqb};
 ghost use lib.ListN.{length, replicate};
-ghost use Rattle.rules.specs.Memory.{ramBytes, radix, startOf, blockOf, mapByte, codeOf, setCodes, ownerOf};
+ghost use Rattle.rules.specs.Memory.{ramBytes, radix, startOf, blockOf, mapByte, codeOf, setCodes, freeCode, ownerOf};
 ghost use Rattle.rules.specs.State.{goodConfig};
 ghost use Rattle.rules.specs.Malloc.{lowestRun};
 ghost use Rattle.rules.specs.Free.{segmentBlocks};
@@ -50,15 +50,16 @@ pub fn is_first(bot: RamByte, a: RamByte) -> bool
     start_of(bot, block_of(bot, a)).0 == a.0
 }
 
-// How many blocks the segment has that starts with the block of a heap address.
-pub fn segment_blocks(config: Config, ram: &[u8], a: RamByte) -> u16
+// How many blocks a domain's segment has that starts with the block of a heap address.
+pub fn segment_blocks(config: Config, ram: &[u8], a: RamByte, domain: u8) -> u16
     requires { ⌜ length (now ram) ≡ ramBytes ⌝ }
     requires { ⌜ goodConfig config ≡ true ⌝ }
     requires { ⌜ config .heap .0 ≤ a .0 ⌝ }
     requires { ⌜ a .0 < config .safe .0 ⌝ }
+    requires { ⌜ ownerOf (codeOf (config .bot) (now ram) (blockOf (config .bot) a)) ≡ domain ⌝ }
     ensures { λ r. ⌜ r ≡ segmentBlocks config (now (ram .entry)) (blockOf (config .bot) a) ⌝ }
 {
-    crate::segment_blocks(config, ram, block_of(config.bot, a))
+    crate::segment_blocks(config, ram, block_of(config.bot, a), domain)
 }
 
 // A run of n blocks from that of an address on: its first code, then the later one.
@@ -72,6 +73,17 @@ pub fn set_run(bot: RamByte, ram: &mut [u8], a: RamByte, n: u16, first: u8, late
     ensures { λ _. ⌜ now (ram .exit) ≡ setCodes bot (now (ram .entry)) (blockOf bot a) (first ∷ replicate (n - 1) later) ⌝ }
 {
     crate::set_run(bot, ram, block_of(bot, a), n, first, later);
+}
+
+// n blocks from that of an address on made free.
+pub fn set_free(bot: RamByte, ram: &mut [u8], a: RamByte, n: u16)
+    requires { ⌜ length (now ram) ≡ ramBytes ⌝ }
+    requires { ⌜ bot .0 ≤ a .0 ⌝ }
+    requires { ⌜ 0 < n ⌝ }
+    requires { ⌜ mapByte bot (blockOf bot a + (n - 1)) < ramBytes ⌝ }
+    ensures { λ _. ⌜ now (ram .exit) ≡ setCodes bot (now (ram .entry)) (blockOf bot a) (replicate n freeCode) ⌝ }
+{
+    crate::fill(bot, ram, block_of(bot, a), n, crate::FREE);
 }
 
 // The lowest run of n free heap blocks.

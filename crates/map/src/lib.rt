@@ -1,25 +1,26 @@
 // The map: half-byte codes, written and read by quotient and remainder. That a code is one of 16, and 15 is free, stands in this file
 // and nowhere else in the code.
-ghost use mathlib.Core.Bool.{true};
+ghost use mathlib.Core.Bool.{true, false};
 ghost use mathlib.Core.List.{_∷_};
 ghost use mathlib.Core.Logic.{_≢_};
 ghost use mathlib.Core.Path.{_≡_};
-ghost use Prim.Native.Nat.{ℕ, _+_, _-_, _*_, _≤_, _<_};
+ghost use Prim.Native.Nat.{ℕ, _+_, _-_, _*_, _/_, _%_, _≤_, _<_};
 ghost use lib.ListN.{length, getD, replicate};
-ghost use Rattle.rules.specs.Memory.{ramBytes, radix, perByte, mapByte, mapDigit, mapBytesFor, safeBlock, codeOf, setCode, setCodes, startCode, laterCode, freeCode, ownerOf, startsSegment, segmentCodes, trusted};
+ghost use Rattle.rules.specs.Memory.{ramBytes, radix, perByte, mapByte, mapDigit, mapBytesFor, safeBlock, codeOf, setCode, setCodes, startCode, laterCode, freeCode, ownerOf, startsSegment, trusted};
 ghost use Rattle.rules.specs.State.{goodConfig};
 ghost use Rattle.rules.specs.SetUp.{setUpRam};
 ghost use Rattle.rules.specs.Malloc.{lowestRun};
 ghost use Rattle.rules.specs.Free.{segmentBlocks};
-ghost use Rattle.map.specs.Look.{shows};
 
 pub mod by_address;
 
 use address::above;
+use address::before;
 use address::block_of;
 use address::first_block;
 use address::further;
 use address::packing::PER_BYTE;
+use address::packing::map_bytes_for;
 use rules::Block;
 use rules::Config;
 use rules::Found;
@@ -39,34 +40,74 @@ fn map_byte(bot: RamByte, k: Block) -> RamByte
     above(bot, k.0 / PER_BYTE)
 }
 
-// The code of a block: the low half of its byte for an even block, the high half for an odd one.
+// An even block's code is the low half of its byte, an odd one's the high half.
+fn even_code(bot: RamByte, ram: &[u8], k: Block) -> u8
+    requires { ⌜ length (now ram) ≡ ramBytes ⌝ }
+    requires { ⌜ mapByte bot (k .0) < ramBytes ⌝ }
+    requires { ⌜ mapDigit (k .0) ≡ 0 ⌝ }
+    ensures { λ r. ⌜ r ≡ codeOf bot (now (ram .entry)) (k .0) ⌝ }
+{
+    let at = map_byte(bot, k);
+    ram[at.0 as usize] % RADIX
+}
+
+fn odd_code(bot: RamByte, ram: &[u8], k: Block) -> u8
+    requires { ⌜ length (now ram) ≡ ramBytes ⌝ }
+    requires { ⌜ mapByte bot (k .0) < ramBytes ⌝ }
+    requires { ⌜ mapDigit (k .0) ≢ 0 ⌝ }
+    ensures { λ r. ⌜ r ≡ codeOf bot (now (ram .entry)) (k .0) ⌝ }
+{
+    let at = map_byte(bot, k);
+    ram[at.0 as usize] / RADIX
+}
+
 fn code_of(bot: RamByte, ram: &[u8], k: Block) -> u8
     requires { ⌜ length (now ram) ≡ ramBytes ⌝ }
     requires { ⌜ mapByte bot (k .0) < ramBytes ⌝ }
     ensures { λ r. ⌜ r ≡ codeOf bot (now (ram .entry)) (k .0) ⌝ }
 {
-    let at = map_byte(bot, k);
-    let byte = ram[at.0 as usize];
     if k.0 % PER_BYTE == 0 {
-        return byte % RADIX;
+        return even_code(bot, ram, k);
     }
-    byte / RADIX
+    odd_code(bot, ram, k)
 }
 
 // The code of a block made another; the other code of its byte stays.
+fn set_even(bot: RamByte, ram: &mut [u8], k: Block, code: u8)
+    requires { ⌜ length (now ram) ≡ ramBytes ⌝ }
+    requires { ⌜ mapByte bot (k .0) < ramBytes ⌝ }
+    requires { ⌜ mapDigit (k .0) ≡ 0 ⌝ }
+    requires { ⌜ code < radix ⌝ }
+    ensures { λ _. ⌜ now (ram .exit) ≡ setCode bot (now (ram .entry)) (k .0) code ⌝ }
+{
+    let at = map_byte(bot, k);
+    let byte = ram[at.0 as usize];
+    ram[at.0 as usize] = byte / RADIX * RADIX + code;
+}
+
+fn set_odd(bot: RamByte, ram: &mut [u8], k: Block, code: u8)
+    requires { ⌜ length (now ram) ≡ ramBytes ⌝ }
+    requires { ⌜ mapByte bot (k .0) < ramBytes ⌝ }
+    requires { ⌜ mapDigit (k .0) ≢ 0 ⌝ }
+    requires { ⌜ code < radix ⌝ }
+    ensures { λ _. ⌜ now (ram .exit) ≡ setCode bot (now (ram .entry)) (k .0) code ⌝ }
+{
+    let at = map_byte(bot, k);
+    let byte = ram[at.0 as usize];
+    ram[at.0 as usize] = code * RADIX + byte % RADIX;
+}
+
 fn set_code(bot: RamByte, ram: &mut [u8], k: Block, code: u8)
     requires { ⌜ length (now ram) ≡ ramBytes ⌝ }
     requires { ⌜ mapByte bot (k .0) < ramBytes ⌝ }
     requires { ⌜ code < radix ⌝ }
     ensures { λ _. ⌜ now (ram .exit) ≡ setCode bot (now (ram .entry)) (k .0) code ⌝ }
 {
-    let at = map_byte(bot, k);
-    let byte = ram[at.0 as usize];
     if k.0 % PER_BYTE == 0 {
-        ram[at.0 as usize] = byte / RADIX * RADIX + code;
+        set_even(bot, ram, k, code);
         return;
     }
-    ram[at.0 as usize] = code * RADIX + byte % RADIX;
+    set_odd(bot, ram, k, code);
 }
 
 pub fn owner_of(code: u8) -> u8
@@ -96,10 +137,12 @@ pub fn later_code(domain: u8) -> u8
     2 * domain
 }
 
-pub fn free_code() -> u8
-    ensures { λ r. ⌜ r ≡ freeCode ⌝ }
+// A byte whose codes are the same.
+fn both(code: u8) -> u8
+    requires { ⌜ code < radix ⌝ }
+    ensures { λ r. ⌜ r ≡ code * radix + code ⌝ }
 {
-    FREE
+    code * RADIX + code
 }
 
 // n bytes of the map from one on, both codes of each the same.
@@ -109,11 +152,11 @@ fn fill_bytes(from: RamByte, ram: &mut [u8], n: u16, code: u8)
     requires { ⌜ code < radix ⌝ }
     ensures { λ _. ⌜ now (ram .exit) ≡ setCodes from (now (ram .entry)) 0 (replicate (n * perByte) code) ⌝ }
 {
-    let both = code * RADIX + code;
-    let end = above(from, n).0;
-    let mut at = from.0;
+    let byte = both(code);
+    let mut at = from.0 as usize;
+    let end = at + n as usize;
     while at < end {
-        ram[at as usize] = both;
+        ram[at] = byte;
         at += 1;
     }
 }
@@ -130,7 +173,20 @@ fn fill_from_even(bot: RamByte, ram: &mut [u8], k: Block, n: u16, code: u8)
     if n % PER_BYTE == 0 {
         return;
     }
-    set_code(bot, ram, further(k, n - 1), code);
+    set_even(bot, ram, further(k, n - 1), code);
+}
+
+// A block on the way to an even one: an odd one alone.
+fn fill_to_even(bot: RamByte, ram: &mut [u8], k: Block, code: u8)
+    requires { ⌜ length (now ram) ≡ ramBytes ⌝ }
+    requires { ⌜ mapByte bot (k .0) < ramBytes ⌝ }
+    requires { ⌜ code < radix ⌝ }
+    ensures { λ _. ⌜ now (ram .exit) ≡ setCodes bot (now (ram .entry)) (k .0) (replicate (mapDigit (k .0)) code) ⌝ }
+{
+    if k.0 % PER_BYTE == 0 {
+        return;
+    }
+    set_odd(bot, ram, k, code);
 }
 
 // n blocks from k on, all of one code.
@@ -143,12 +199,9 @@ fn fill(bot: RamByte, ram: &mut [u8], k: Block, n: u16, code: u8)
     if n == 0 {
         return;
     }
-    if k.0 % PER_BYTE == 0 {
-        fill_from_even(bot, ram, k, n, code);
-        return;
-    }
-    set_code(bot, ram, k, code);
-    fill_from_even(bot, ram, further(k, 1), n - 1, code);
+    fill_to_even(bot, ram, k, code);
+    let odd = k.0 % PER_BYTE;
+    fill_from_even(bot, ram, further(k, odd), n - odd, code);
 }
 
 // A run of n blocks from k on: its first code, then the later one.
@@ -172,11 +225,12 @@ fn bytes_alike(from: RamByte, ram: &[u8], n: u16, byte: u8) -> u16
     ensures { λ r. ⌜ ((j : ℕ) → from .0 ≤ j → j < from .0 + r → getD (now (ram .entry)) j 0 ≡ byte) ⌝ }
     ensures { λ r. ⌜ (r < n → getD (now (ram .entry)) (from .0 + r) 0 ≢ byte) ⌝ }
 {
-    let to = above(from, n).0;
-    let mut at = from.0;
+    let first = from.0 as usize;
+    let to = first + n as usize;
+    let mut at = first;
     while at < to {
-        if ram[at as usize] != byte {
-            return at - from.0;
+        if ram[at] != byte {
+            return (at - first) as u16;
         }
         at += 1;
     }
@@ -193,74 +247,94 @@ fn blocks_alike(bot: RamByte, ram: &[u8], k: Block, n: u16, code: u8) -> u16
     ensures { λ r. ⌜ ((j : ℕ) → k .0 ≤ j → j < k .0 + r → codeOf bot (now (ram .entry)) j ≡ code) ⌝ }
     ensures { λ r. ⌜ (r < n → codeOf bot (now (ram .entry)) (k .0 + r) ≢ code) ⌝ }
 {
-    let both = code * RADIX + code;
-    let alike = bytes_alike(map_byte(bot, k), ram, n / PER_BYTE, both) * PER_BYTE;
+    let byte = both(code);
+    let alike = bytes_alike(map_byte(bot, k), ram, n / PER_BYTE, byte) * PER_BYTE;
     if alike == n {
         return n;
     }
-    if code_of(bot, ram, further(k, alike)) != code {
+    if even_code(bot, ram, further(k, alike)) != code {
         return alike;
     }
     alike + 1
 }
 
-// How many blocks the segment that starts at k has: k and the heap blocks directly after it that continue the same owner.
-fn segment_blocks(config: Config, ram: &[u8], k: Block) -> u16
+// Whether a block on the way to an even one has the code: an odd one must, and stand before end.
+fn alike_to_even(bot: RamByte, ram: &[u8], k: Block, end: u16, code: u8) -> bool
+    requires { ⌜ length (now ram) ≡ ramBytes ⌝ }
+    requires { ⌜ mapByte bot (k .0) < ramBytes ⌝ }
+    ensures { λ r. ⌜ (r ≡ true → mapDigit (k .0) ≢ 0 → (k .0 ≢ end) × (codeOf bot (now (ram .entry)) (k .0) ≡ code)) ⌝ }
+    ensures { λ r. ⌜ (r ≡ false → k .0 ≢ end → codeOf bot (now (ram .entry)) (k .0) ≢ code) ⌝ }
+{
+    if k.0 % PER_BYTE == 0 {
+        return true;
+    }
+    if k.0 == end {
+        return false;
+    }
+    odd_code(bot, ram, k) == code
+}
+
+// How many blocks a domain's segment that starts at k has: k and the heap blocks directly after it that continue the same owner.
+fn segment_blocks(config: Config, ram: &[u8], k: Block, domain: u8) -> u16
     requires { ⌜ length (now ram) ≡ ramBytes ⌝ }
     requires { ⌜ goodConfig config ≡ true ⌝ }
     requires { ⌜ k .0 < safeBlock config ⌝ }
+    requires { ⌜ ownerOf (codeOf (config .bot) (now ram) (k .0)) ≡ domain ⌝ }
     ensures { λ r. ⌜ r ≡ segmentBlocks config (now (ram .entry)) (k .0) ⌝ }
 {
     let end = block_of(config.bot, config.safe).0;
-    let later = later_code(owner_of(code_of(config.bot, ram, k)));
+    let later = later_code(domain);
     let next = further(k, 1);
-    if next.0 % PER_BYTE == 0 {
-        return 1 + blocks_alike(config.bot, ram, next, end - next.0, later);
-    }
-    if next.0 == end {
+    if !alike_to_even(config.bot, ram, next, end, later) {
         return 1;
     }
-    if code_of(config.bot, ram, next) != later {
+    let even = further(next, next.0 % PER_BYTE);
+    even.0 - k.0 + blocks_alike(config.bot, ram, even, end - even.0, later)
+}
+
+// Whether the first block of a byte is the last of n free ones, behind run others.
+fn completes(byte: u8, run: u16, n: u16) -> bool
+    requires { ⌜ run < n ⌝ }
+    ensures { λ r. ⌜ (r ≡ true → (run + 1 ≡ n) × (byte % radix ≡ freeCode)) ⌝ }
+    ensures { λ r. ⌜ (r ≡ false → run + 1 ≡ n → byte % radix ≢ freeCode) ⌝ }
+{
+    if run + 1 != n {
+        return false;
+    }
+    byte % RADIX == FREE
+}
+
+// How many free blocks a byte ends with of which not both are free.
+fn free_at_end(byte: u8) -> u16
+    ensures { λ r. ⌜ r ≤ 1 ⌝ }
+    ensures { λ r. ⌜ (r ≡ 1 → byte / radix ≡ freeCode) ⌝ }
+    ensures { λ r. ⌜ (r ≡ 0 → byte / radix ≢ freeCode) ⌝ }
+{
+    if byte / RADIX == FREE {
         return 1;
     }
-    let even = further(next, 1);
-    2 + blocks_alike(config.bot, ram, even, end - even.0, later)
+    0
 }
 
-// What one look at a block's byte shows from that block on: free blocks, a free one before one that is not, or blocks that are not.
-enum Seen {
-    Free(u16),
-    LastFree,
-    Used(u16),
-}
-
-// An even block is seen together with the next.
-fn look(bot: RamByte, ram: &[u8], k: Block) -> Seen
+// How many free blocks there are from k on before an even one: an odd one alone.
+fn free_to_even(bot: RamByte, ram: &[u8], k: Block) -> u16
     requires { ⌜ length (now ram) ≡ ramBytes ⌝ }
     requires { ⌜ mapByte bot (k .0) < ramBytes ⌝ }
-    ensures { λ r. ⌜ shows bot (now (ram .entry)) (k .0) r ⌝ }
+    ensures { λ r. ⌜ r ≤ mapDigit (k .0) ⌝ }
+    ensures { λ r. ⌜ (0 < r → codeOf bot (now (ram .entry)) (k .0) ≡ freeCode) ⌝ }
+    ensures { λ r. ⌜ (r < mapDigit (k .0) → codeOf bot (now (ram .entry)) (k .0) ≢ freeCode) ⌝ }
 {
-    let at = map_byte(bot, k).0;
-    let byte = ram[at as usize];
-    if k.0 % PER_BYTE != 0 {
-        if byte / RADIX == FREE {
-            return Seen::Free(1);
-        }
-        return Seen::Used(1);
+    if k.0 % PER_BYTE == 0 {
+        return 0;
     }
-    if byte == FREE * RADIX + FREE {
-        return Seen::Free(PER_BYTE);
+    if odd_code(bot, ram, k) == FREE {
+        return 1;
     }
-    if byte % RADIX == FREE {
-        return Seen::LastFree;
-    }
-    if byte / RADIX == FREE {
-        return Seen::Used(1);
-    }
-    Seen::Used(PER_BYTE)
+    0
 }
 
-// The lowest run of n free heap blocks. Behind a block that is not free the search starts anew: none is looked at more than twice.
+// The lowest run of n free heap blocks, from an even block on a byte at a look: k is the next block to be looked at, at its byte. Behind a
+// block that is not free the search starts anew.
 fn lowest_run(config: Config, ram: &[u8], n: u16) -> Found
     requires { ⌜ length (now ram) ≡ ramBytes ⌝ }
     requires { ⌜ goodConfig config ≡ true ⌝ }
@@ -271,28 +345,30 @@ fn lowest_run(config: Config, ram: &[u8], n: u16) -> Found
     if end < n {
         return Found::Nowhere;
     }
-    let mut start = block_of(config.bot, config.heap);
+    let first = block_of(config.bot, config.heap);
+    let even = further(first, first.0 % PER_BYTE);
+    let mut run = free_to_even(config.bot, ram, first);
+    let mut start = before(even, run);
+    let mut at = map_byte(config.bot, even).0 as usize;
+    let free = both(FREE);
     let found = 'search: loop {
         if start.0 > end - n {
             break 'search Found::Nowhere;
         }
-        let mut run: u16 = 0;
+        let mut k = further(start, run);
         while run < n {
-            let k = further(start, run);
-            let seen = look(config.bot, ram, k);
-            match seen {
-                Seen::Free(m) => run += m,
-                Seen::LastFree => {
-                    if run + 1 == n {
-                        break 'search Found::At(start);
-                    }
-                    start = further(k, 2);
-                    continue 'search;
+            let byte = ram[at];
+            at += 1;
+            k = further(k, PER_BYTE);
+            if byte == free {
+                run += PER_BYTE;
+            } else {
+                if completes(byte, run, n) {
+                    break 'search Found::At(start);
                 }
-                Seen::Used(m) => {
-                    start = further(k, m);
-                    continue 'search;
-                }
+                run = free_at_end(byte);
+                start = before(k, run);
+                continue 'search;
             }
         }
         break 'search Found::At(start);
@@ -300,19 +376,22 @@ fn lowest_run(config: Config, ram: &[u8], n: u16) -> Found
     found
 }
 
-// n blocks of the trusted domain from k on: none, or a segment.
-fn set_trusted(bot: RamByte, ram: &mut [u8], k: Block, n: u16)
+// The code of an area's first block, if it has one.
+fn set_first(bot: RamByte, ram: &mut [u8], k: Block, end: Block, code: u8)
     requires { ⌜ length (now ram) ≡ ramBytes ⌝ }
-    requires { ⌜ bot .0 + mapBytesFor (k .0 + n) ≤ ramBytes ⌝ }
-    ensures { λ _. ⌜ now (ram .exit) ≡ setCodes bot (now (ram .entry)) (k .0) (segmentCodes trusted n) ⌝ }
+    requires { ⌜ (k .0 < end .0 → mapByte bot (k .0) < ramBytes) ⌝ }
+    requires { ⌜ code < radix ⌝ }
+    ensures { λ _. ⌜ (k .0 < end .0 → now (ram .exit) ≡ setCode bot (now (ram .entry)) (k .0) code) ⌝ }
+    ensures { λ _. ⌜ (end .0 ≤ k .0 → now (ram .exit) ≡ now (ram .entry)) ⌝ }
 {
-    if n == 0 {
+    if end.0 <= k.0 {
         return;
     }
-    set_run(bot, ram, k, n, start_code(TRUSTED), later_code(TRUSTED));
+    set_code(bot, ram, k, code);
 }
 
-// The map as set-up writes it, area by area; last the unused half of an odd number of blocks.
+// The map as set-up writes it: every byte the trusted domain's, then its first block, the heap, the first block of the safe stack area and
+// the unused half of an odd number of blocks.
 pub fn set_up_map(config: Config, ram: &mut [u8])
     requires { ⌜ length (now ram) ≡ ramBytes ⌝ }
     requires { ⌜ goodConfig config ≡ true ⌝ }
@@ -321,8 +400,9 @@ pub fn set_up_map(config: Config, ram: &mut [u8])
     let heap = block_of(config.bot, config.heap);
     let safe = block_of(config.bot, config.safe);
     let end = block_of(config.bot, config.top);
-    set_trusted(config.bot, ram, first_block(), heap.0);
+    fill_bytes(config.bot, ram, map_bytes_for(end.0), later_code(TRUSTED));
+    set_even(config.bot, ram, first_block(), start_code(TRUSTED));
     fill(config.bot, ram, heap, safe.0 - heap.0, FREE);
-    set_trusted(config.bot, ram, safe, end.0 - safe.0);
+    set_first(config.bot, ram, safe, end, start_code(TRUSTED));
     fill(config.bot, ram, end, end.0 % PER_BYTE, FREE);
 }

@@ -44,10 +44,6 @@ segment-run : (d n : ℕ) → 0 < n → startCode d ∷ replicate (n - 1) (later
 segment-run d zero h = absurd (omega arith)
 segment-run d (suc n) h = let e : suc n - 1 ≡ n = omega arith in rw e
 
-free-run : (n : ℕ) → 0 < n → freeCode ∷ replicate (n - 1) freeCode ≡ replicate n freeCode
-free-run zero h = absurd (omega arith)
-free-run (suc n) h = let e : suc n - 1 ≡ n = omega arith in rw e
-
 -- ---- malloc
 
 -- the run that was found starts at a: with the block of a, whose first byte a is
@@ -112,11 +108,9 @@ module _ (s : State) (ram : List ℕ) (a : RamByte) (own : OwnSegment s ram a) w
       ≡ record {
         answer = Done (segmentBlocks (s .config) ram k);
         state = s;
-        ram = setCodes (s .config .bot) ram k (freeCode ∷ replicate (segmentBlocks (s .config) ram k - 1) freeCode);
+        ram = setCodes (s .config .bot) ram k (replicate (segmentBlocks (s .config) ram k) freeCode);
       }
-  free-done =
-      rw (free-run (segmentBlocks (s .config) ram k) (segment-some (s .config) ram k))
-      (simp (eq-eqb _ _ (own .sized), own .good, own .starts, eq-eqb _ _ (own .owned)))
+  free-done = simp (eq-eqb _ _ (own .sized), own .good, own .starts, eq-eqb _ _ (own .owned))
 
   pub change-done : (d : ℕ) → d < trusted → changeOf s ram a d
       ≡ record {

@@ -88,27 +88,24 @@ pub fn call_with(
             let safe = config.safe.0 as usize;
             let top = config.top.0 as usize;
             let used = state.safepointer.0 - config.safe.0;
-            let mut next = state;
+            let mut state = state;
             if target.0 < config.jt.0 {
                 frames::push(&mut ram[safe..top], used, Frame::Local(site));
-                next.safepointer = address::above(state.safepointer, frames::LOCAL_BYTES);
-                return Outcome {
-                    answer,
-                    state: next,
-                };
+                state.safepointer = address::above(state.safepointer, frames::LOCAL_BYTES);
+                return Outcome { answer, state };
             }
             let bound = state.bound;
             let frame = Frame::Cross(site, bound, state.domain);
             frames::push(&mut ram[safe..top], used, frame);
-            next.domain = call_check::called_domain(config, target);
-            next.bound = pointer;
-            next.safepointer = address::above(state.safepointer, frames::CROSS_BYTES);
-            return Outcome {
-                answer,
-                state: next,
-            };
+            state.domain = call_check::called_domain(config, target);
+            state.bound = pointer;
+            state.safepointer = address::above(state.safepointer, frames::CROSS_BYTES);
+            return Outcome { answer, state };
         }
-        Answer::Refused(_) => return Outcome { answer, state },
+        Answer::Refused(refusal) => return Outcome {
+            answer: Answer::Refused(refusal),
+            state,
+        },
     }
 }
 
@@ -177,9 +174,8 @@ pub fn free(state: State, ram: &mut [u8], address: RamByte) -> Outcome
     match answer {
         Answer::Done(_) => {
             let config = state.config;
-            let freed = by_address::segment_blocks(config, ram, address);
-            let code = map::free_code();
-            by_address::set_run(config.bot, ram, address, freed, code, code);
+            let freed = by_address::segment_blocks(config, ram, address, state.domain);
+            by_address::set_free(config.bot, ram, address, freed);
             Outcome {
                 answer: Answer::Done(freed),
                 state,
@@ -203,7 +199,7 @@ pub fn change(state: State, ram: &mut [u8], address: RamByte, domain: u8) -> Out
                 };
             }
             let config = state.config;
-            let changed = by_address::segment_blocks(config, ram, address);
+            let changed = by_address::segment_blocks(config, ram, address, state.domain);
             let first = map::start_code(domain);
             let later = map::later_code(domain);
             by_address::set_run(config.bot, ram, address, changed, first, later);

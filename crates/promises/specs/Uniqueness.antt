@@ -21,7 +21,7 @@ use Rattle.rules.specs.declared.Found.{Found}
 use Rattle.rules.specs.declared.Answer.{Answer}
 use Rattle.rules.specs.Memory.{ramBytes, startOf, blockOf, blocksFor, isMultiple, mapBytesFor, codeOf, setCodes, startCode, laterCode, freeCode, ownerOf, startsSegment}
 use Rattle.rules.specs.Code.{tableWords, domainWords, flashWord}
-use Rattle.rules.specs.State.{ramByte, multiples, botBelowTop, mapBelowHeap, heapBelowSafe, safeBelowTop, topInRam, jtInFlash, goodConfig, domainGood, boundGood, safepointerGood, goodState}
+use Rattle.rules.specs.State.{ramByte, multiples, botBelowTop, mapBelowHeap, heapBelowSafe, safeBelowTop, topInRam, jtInFlash, rangesOrdered, rangesApart, goodConfig, domainGood, boundGood, safepointerGood, goodState}
 use Rattle.rules.specs.Answers.{numberOf, valueOf, Given, Gives}
 use Rattle.rules.specs.SetUp.{setUpRam, setUpOf}
 use Rattle.rules.specs.Store.{storeOf}
@@ -87,6 +87,7 @@ pub record Uniqueness : Type 1 where
   pub «block_of» : (bot a : RamByte) → Only (λ r. r ≡ block (blockOf bot a))
   pub «start_of» : (bot : RamByte) (k : Block) → Only (λ r. r ≡ ramByte (startOf bot (k .0)))
   pub further : (k : Block) (n : ℕ) → Only (λ r. r ≡ block (k .0 + n))
+  pub before : (k : Block) (n : ℕ) → Only (λ r. r ≡ block (k .0 - n))
   pub «first_block» : Only (λ r. r ≡ block 0)
   pub «is_multiple» : (a : RamByte) → Only (λ r. r ≡ isMultiple a)
   pub «blocks_for» : (size : ℕ) → Only (λ r. r ≡ blocksFor size)
@@ -108,6 +109,7 @@ pub record Uniqueness : Type 1 where
   -- crates/good
   pub «good_bounds» : (config : Config)
       → Only (λ r. r ≡ (multiples config && botBelowTop config && mapBelowHeap config && heapBelowSafe config && safeBelowTop config && topInRam config && jtInFlash config))
+  pub «good_ranges» : (config : Config) → Only (λ r. r ≡ (rangesOrdered config && rangesApart config))
   pub «good_config» : (config : Config) → Only (λ r. r ≡ goodConfig config)
   pub «good_run» : (state : State) → Only (λ r. r ≡ (domainGood state && boundGood state && safepointerGood state))
   pub «good_state» : (state : State) → Only (λ r. r ≡ goodState state)
@@ -116,13 +118,15 @@ pub record Uniqueness : Type 1 where
   pub «starts_segment» : (code : ℕ) → Only (λ r. r ≡ startsSegment code)
   pub «start_code» : (domain : ℕ) → Only (λ r. r ≡ startCode domain)
   pub «later_code» : (domain : ℕ) → Only (λ r. r ≡ laterCode domain)
-  pub «free_code» : Only (λ r. r ≡ freeCode)
   pub «set_up_map» : (config : Config) (ram : List ℕ) → Only (λ ram′. ram′ ≡ setUpRam config ram)
   pub «code_at» : (bot : RamByte) (ram : List ℕ) (a : RamByte) → Only (λ r. r ≡ codeOf bot ram (blockOf bot a))
   pub «owner_at» : (bot : RamByte) (ram : List ℕ) (a : RamByte) → Only (λ r. r ≡ ownerOf (codeOf bot ram (blockOf bot a)))
   pub «is_first» : (bot a : RamByte) → Only (λ r. r ≡ eqb (startOf bot (blockOf bot a)) (a .0))
-  pub «segment_blocks» : (config : Config) (ram : List ℕ) (a : RamByte) → Only (λ r. r ≡ segmentBlocks config ram (blockOf (config .bot) a))
+  pub «segment_blocks» : (config : Config) (ram : List ℕ) (a : RamByte) (domain : ℕ)
+      → Only (λ r. r ≡ segmentBlocks config ram (blockOf (config .bot) a))
   pub «set_run» : (bot : RamByte) (ram : List ℕ) (a : RamByte) (n first later : ℕ)
       → Only (λ ram′. ram′ ≡ setCodes bot ram (blockOf bot a) (first ∷ replicate (n - 1) later))
+  pub «set_free» : (bot : RamByte) (ram : List ℕ) (a : RamByte) (n : ℕ)
+      → Only (λ ram′. ram′ ≡ setCodes bot ram (blockOf bot a) (replicate n freeCode))
   pub «lowest_run» : (Run : Type 0) (runOf : RamByte → Found → Run) (config : Config) (ram : List ℕ) (n : ℕ)
       → Only (λ r. r ≡ runOf (config .bot) (lowestRun config ram n))

@@ -19,17 +19,14 @@ returns c =
     let a = c .before .before .before .before .args in
     local-short (a .area .now) (a .used) (omega arith) (omega arith) (c .before .match .keys1) (c .if1 .taken)
 
-cast-word-of : tie.Need-cast-word-of
-cast-word-of c = search needs
+cast-at : tie.Need-cast-at
+cast-at c = search needs
 
 shared-slice-read-word-of : tie.Need-shared-slice-read-word-of
 shared-slice-read-word-of c = search needs
 
-sub-word-of : tie.Need-sub-word-of
-sub-word-of c = search needs
-
-cast-word-of-2 : tie.Need-cast-word-of-2
-cast-word-of-2 c = search needs
+add-word-of : tie.Need-add-word-of
+add-word-of c = search needs
 
 shared-slice-read-word-of-2 : tie.Need-shared-slice-read-word-of-2
 shared-slice-read-word-of-2 c = search needs
@@ -45,19 +42,16 @@ returns-2 c =
 returns-3 : tie.Need-returns-3
 returns-3 c =
     let a = c .before .before .before .before .before .args in
-    cross-short (a .area .now) (a .used) (omega arith) (omega arith) (c .before .before .match .rest .1) (omega arith) (c .if3 .taken)
+    cross-short (a .area .now) (a .used) (omega arith) (omega arith) (c .before .before .match .rest .1) (omega arith) (omega arith)
 
-cast-word-of-3 : tie.Need-cast-word-of-3
-cast-word-of-3 c = search needs
+cast-at-2 : tie.Need-cast-at-2
+cast-at-2 c = search needs
 
 shared-slice-read-word-of-3 : tie.Need-shared-slice-read-word-of-3
 shared-slice-read-word-of-3 c = search needs
 
-sub-word-of-2 : tie.Need-sub-word-of-2
-sub-word-of-2 c = search needs
-
-cast-word-of-4 : tie.Need-cast-word-of-4
-cast-word-of-4 c = search needs
+add-word-of-2 : tie.Need-add-word-of-2
+add-word-of-2 c = search needs
 
 shared-slice-read-word-of-4 : tie.Need-shared-slice-read-word-of-4
 shared-slice-read-word-of-4 c = search needs
@@ -65,20 +59,14 @@ shared-slice-read-word-of-4 c = search needs
 word-of-requires-2 : tie.Need-word-of-requires-2
 word-of-requires-2 c κs = search needs
 
-sub-byte-of : tie.Need-sub-byte-of
-sub-byte-of c = search needs
-
-cast-byte-of : tie.Need-cast-byte-of
-cast-byte-of c = search needs
+add-byte-of : tie.Need-add-byte-of
+add-byte-of c = search needs
 
 shared-slice-read-byte-of : tie.Need-shared-slice-read-byte-of
 shared-slice-read-byte-of c = search needs
 
-sub-byte-of-2 : tie.Need-sub-byte-of-2
-sub-byte-of-2 c = search needs
-
-cast-byte-of-2 : tie.Need-cast-byte-of-2
-cast-byte-of-2 c = search needs
+add-byte-of-2 : tie.Need-add-byte-of-2
+add-byte-of-2 c = search needs
 
 shared-slice-read-byte-of-2 : tie.Need-shared-slice-read-byte-of-2
 shared-slice-read-byte-of-2 c = search needs
@@ -88,8 +76,8 @@ byte-of-requires c κs = search needs
 
 returns-4 : tie.Need-returns-4
 returns-4 c =
-    let a = c .before .before .before .before .before .before .before .before .before .before .before .args in
-    cross-read (a .area .now) (a .used) (omega (arith, c .before .before .before .before .before .before .before .before .before .before .before .pre)) (omega (arith, c .before .before .before .before .before .before .before .before .before .before .before .pre)) _ _ (omega (arith, c .before .before .before .before .before .before .before)) (omega (arith, c .before .before .before .before .before .before)) (c .before .before .before .word-of2 .ensures) (c .byte-of .ensures)
+    let s = c .before .before .before .before .before .before .before .before .before .before .before in
+    cross-read (s .args .area .now) (s .args .used) (s .pre .0) (s .pre .1) _ _ (omega (arith, c .before .before .before .before .before .before .before)) (omega (arith, c .before .before .before .before .before .before)) (c .before .before .before .word-of2 .ensures) (c .byte-of .ensures)
 
 returns-5 : tie.Need-returns-5
 returns-5 c =
@@ -104,25 +92,21 @@ pop-spec =
     cast-tag
     shared-slice-read-tag
     returns
-    cast-word-of
+    cast-at
     shared-slice-read-word-of
-    sub-word-of
-    cast-word-of-2
+    add-word-of
     shared-slice-read-word-of-2
     word-of-requires
     returns-2
     returns-3
-    cast-word-of-3
+    cast-at-2
     shared-slice-read-word-of-3
-    sub-word-of-2
-    cast-word-of-4
+    add-word-of-2
     shared-slice-read-word-of-4
     word-of-requires-2
-    sub-byte-of
-    cast-byte-of
+    add-byte-of
     shared-slice-read-byte-of
-    sub-byte-of-2
-    cast-byte-of-2
+    add-byte-of-2
     shared-slice-read-byte-of-2
     byte-of-requires
     returns-4

@@ -2,13 +2,14 @@
 use Prim.Native.Nat.{ℕ, _+_, _*_, _/_}
 use mathlib.Core.Path.{_≡_, refl, sym, ap, _∙_}
 use mathlib.Core.Bool.{true, false, not, _||_, or-true, or-false}
+use mathlib.Core.Logic.{⊎-elim}
 use mathlib.Core.List.{List}
 use native.Mathlib.Omega.{arith}
 use lib.ListN.{length}
 use lib.Seq.{sets}
 use lib.Dec.{eqb}
 use denote.Ref.{now}
-use borrow.Author.Tests.{eq-eqb, ne-eqb}
+use borrow.Author.Tests.{eq-eqb, ne-eqb, not-false}
 use Rattle.rules.specs.declared.State.{State}
 use Rattle.rules.specs.declared.FlashWord.{FlashWord}
 use Rattle.rules.specs.Code.{tableWords, domainWords, flashWord, rangeOf, tableWord}
@@ -58,12 +59,15 @@ returns-2 c =
     rw (eq-eqb (length table) tableBytes (c .before .before .before .before .if1 .left), or-false (wrongSize slot ram))
     (c .before .refusal-before .ensures .some (c .if2 .taken) (callOf (stateIn slot) ram (tableIn table) (flashWord (args .target)) (flashWord (args .site)) (ramByte (args .pointer))))
 
-good-state-requires : tie.Need-good-state-requires
-good-state-requires c κs =
+usual-requires : tie.Need-usual-requires
+usual-requires c κs =
     let args = c .before .before .before .before .before .before .before .before .before .args in
     let slot : List ℕ = now (args .slot) in
     let ram : List ℕ = now (args .ram) in
     right-size slot ram (c .before .before .refusal-before .ensures .none (c .before .if2 .left) .sizes) .0
+
+good-state-requires : tie.Need-good-state-requires
+good-state-requires c κs = usual-requires (c .before .before .before) κs
 
 refused-requires-2 : tie.Need-refused-requires-2
 refused-requires-2 c κs = search needs
@@ -76,13 +80,17 @@ same-length-4 c = search needs
 
 returns-3 : tie.Need-returns-3
 returns-3 c =
-    let args = c .before .before .before .before .before .before .before .before .before .before .before .before .args in
+    let args = c .before .before .before .before .before .before .before .before .before .before .before .before .before .before .before .args in
     let slot : List ℕ = now (args .slot) in
     let ram : List ℕ = now (args .ram) in
     let table : List ℕ = now (args .table) in
-    let ready = c .before .before .before .before .before .refusal-before .ensures .none (c .before .before .before .before .if2 .left) in
-    let sizes : (wrongSize slot ram || not (eqb (length table) tableBytes)) ≡ false = rw (eq-eqb (length table) tableBytes (c .before .before .before .before .before .before .before .before .if1 .left), or-false (wrongSize slot ram)) (ready .sizes) in
-    call-not-good slot ram ready (failed (c .before .before .good-state .ensures) (c .before .if3 .taken)) table (flashWord (args .target)) (flashWord (args .site)) (ramByte (args .pointer)) _ sizes _ (c .refused2 .ensures)
+    let ready = c .before .before .before .before .before .before .before .before .refusal-before .ensures .none (c .before .before .before .before .before .before .before .if2 .left) in
+    let sizes : (wrongSize slot ram || not (eqb (length table) tableBytes)) ≡ false = rw (eq-eqb (length table) tableBytes (c .before .before .before .before .before .before .before .before .before .before .before .if1 .left), or-false (wrongSize slot ram)) (ready .sizes) in
+    call-not-good slot ram ready (failed (c .before .before .good-state .ensures) (c .before .if4 .taken)) table (flashWord (args .target)) (flashWord (args .site)) (ramByte (args .pointer)) _ sizes _ (c .refused2 .ensures)
+
+-- the state is good, whichever of the two tests accepted it
+state-good : (c : tie.Joined3) → goodState (stateIn (now (c .before .before .before .before .before .before .before .before .before .before .before .args .slot))) ≡ true
+state-good c = ⊎-elim (λ w. passed (w .2 .ensures) (w .3 .left)) (λ w. c .before .usual .ensures (not-false _ (w .left))) (c .if3 .came)
 
 state-in-requires : tie.Need-state-in-requires
 state-in-requires c κs =
@@ -102,7 +110,7 @@ code-at-requires c κs =
     let args = c .before .before .before .before .before .before .before .before .before .before .before .before .before .before .before .before .args in
     let slot : List ℕ = now (args .slot) in
     let ram : List ℕ = now (args .ram) in
-    (right-size slot ram (c .before .before .before .before .before .before .before .before .before .refusal-before .ensures .none (c .before .before .before .before .before .before .before .before .if2 .left) .sizes) .0, rw (c .before .before .before .state-in .ensures) (goodState-facts (stateIn slot) (passed (c .before .before .before .before .before .before .good-state .ensures) (c .before .before .before .before .before .if3 .left)) .domain≤trusted))
+    (right-size slot ram (c .before .before .before .before .before .before .before .before .before .refusal-before .ensures .none (c .before .before .before .before .before .before .before .before .if2 .left) .sizes) .0, rw (c .before .before .before .state-in .ensures) (goodState-facts (stateIn slot) (state-good (c .before .before .before .before .before)) .domain≤trusted))
 
 domain-of-requires : tie.Need-domain-of-requires
 domain-of-requires c κs = search needs
@@ -137,7 +145,7 @@ call-with-requires c κs =
     let args = c .before .before .before .before .before .before .before .before .before .before .before .before .before .before .before .before .before .before .before .before .before .before .before .before .before .args in
     let slot : List ℕ = now (args .slot) in
     let ram : List ℕ = now (args .ram) in
-    let good : goodState (stateIn slot) ≡ true = passed (c .before .before .before .before .before .before .before .before .before .before .before .before .before .before .before .good-state .ensures) (c .before .before .before .before .before .before .before .before .before .before .before .before .before .before .if3 .left) in
+    let good : goodState (stateIn slot) ≡ true = state-good (c .before .before .before .before .before .before .before .before .before .before .before .before .before .before) in
     let word = rw (c .before .before .before .before .before .before .before .before .before .before .before .before .state-in .ensures, c .before .before .before .before .before .before .before .before .before .before .before .flash-word .ensures) at (c .before .before .before .before .before .before .before .before .before .before .table-word .ensures .1) in
     rw (c .before .before .before .before .before .before .before .before .before .before .before .before .state-in .ensures, c .before .before .flash-word2 .ensures)
     (right-size slot ram (c .before .before .before .before .before .before .before .before .before .before .before .before .before .before .before .before .before .before .refusal-before .ensures .none (c .before .before .before .before .before .before .before .before .before .before .before .before .before .before .before .before .before .if2 .left) .sizes) .1, good, rw (c .before .before .before .before .before .before .before .before .before .before .before .before .state-in .ensures) at (c .before .before .before .before .before .before .before .before .code-at .ensures), λ from to. c .before .before .before .before .before .code-at2 .ensures ∙ ap (rangeOf (configIn slot)) (c .before .before .before .before .before .before .domain-of .ensures ∙ ap (λ w. w / domainWords) (word to)))
@@ -188,6 +196,7 @@ hmt-call-spec =
     same-length
     same-length-2
     returns-2
+    usual-requires
     good-state-requires
     refused-requires-2
     same-length-3

@@ -2,9 +2,11 @@
 use Prim.Native.Nat.{ℕ, _<_}
 use mathlib.Core.Path.{_≡_, ap, _∙_}
 use mathlib.Core.Bool.{true}
+use mathlib.Core.Logic.{⊎-elim}
 use mathlib.Core.List.{List}
 use native.Mathlib.Omega.{arith}
 use denote.Ref.{now}
+use borrow.Author.Tests.{not-false}
 use Rattle.rules.specs.declared.State.{State}
 use Rattle.rules.specs.Code.{rangeOf}
 use Rattle.rules.specs.State.{goodState}
@@ -35,12 +37,15 @@ returns c =
     let ram : List ℕ = now (args .ram) in
     c .before .refusal-before .ensures .some (c .if1 .taken) (returnOf (stateIn slot) ram)
 
-good-state-requires : tie.Need-good-state-requires
-good-state-requires c κs =
+usual-requires : tie.Need-usual-requires
+usual-requires c κs =
     let args = c .before .before .before .before .before .before .before .args in
     let slot : List ℕ = now (args .slot) in
     let ram : List ℕ = now (args .ram) in
     right-size slot ram (c .before .before .refusal-before .ensures .none (c .before .if1 .left) .sizes) .0
+
+good-state-requires : tie.Need-good-state-requires
+good-state-requires c κs = usual-requires (c .before .before .before) κs
 
 refused-requires : tie.Need-refused-requires
 refused-requires c κs = search needs
@@ -53,11 +58,15 @@ same-length-4 c = search needs
 
 returns-2 : tie.Need-returns-2
 returns-2 c =
-    let args = c .before .before .before .before .before .before .before .before .before .before .args in
+    let args = c .before .before .before .before .before .before .before .before .before .before .before .before .before .args in
     let slot : List ℕ = now (args .slot) in
     let ram : List ℕ = now (args .ram) in
-    let ready = c .before .before .before .before .before .refusal-before .ensures .none (c .before .before .before .before .if1 .left) in
-    not-good slot ram ready (failed (c .before .before .good-state .ensures) (c .before .if2 .taken)) (wrongSize slot ram) (ready .sizes) _ (c .refused .ensures) _ _ _ _
+    let ready = c .before .before .before .before .before .before .before .before .refusal-before .ensures .none (c .before .before .before .before .before .before .before .if1 .left) in
+    not-good slot ram ready (failed (c .before .before .good-state .ensures) (c .before .if3 .taken)) (wrongSize slot ram) (ready .sizes) _ (c .refused .ensures) _ _ _ _
+
+-- the state is good, whichever of the two tests accepted it
+state-good : (c : tie.Joined2) → goodState (stateIn (now (c .before .before .before .before .before .before .before .before .before .args .slot))) ≡ true
+state-good c = ⊎-elim (λ w. passed (w .2 .ensures) (w .3 .left)) (λ w. c .before .usual .ensures (not-false _ (w .left))) (c .if2 .came)
 
 state-in-requires : tie.Need-state-in-requires
 state-in-requires c κs =
@@ -80,17 +89,17 @@ returns-3 c =
     let args = c .before .before .before .before .before .before .before .before .before .before .before .before .before .before .args in
     let slot : List ℕ = now (args .slot) in
     let ram : List ℕ = now (args .ram) in
-    let good = passed (c .before .before .before .before .before .before .good-state .ensures) (c .before .before .before .before .before .if2 .left) in
-    no-frame slot ram (c .before .before .before .before .before .before .before .before .before .refusal-before .ensures .none (c .before .before .before .before .before .before .before .before .if1 .left)) good (rw (c .before .before .before .state-in .ensures) at (c .before .if3 .taken)) _ (c .refused2 .ensures)
+    let good = state-good (c .before .before .before .before .before) in
+    no-frame slot ram (c .before .before .before .before .before .before .before .before .before .refusal-before .ensures .none (c .before .before .before .before .before .before .before .before .if1 .left)) good (rw (c .before .before .before .state-in .ensures) at (c .before .if4 .taken)) _ (c .refused2 .ensures)
 
 top-frame-requires : tie.Need-top-frame-requires
 top-frame-requires c κs =
     let args = c .before .before .before .before .before .before .before .before .before .before .before .before .before .before .args in
     let slot : List ℕ = now (args .slot) in
     let ram : List ℕ = now (args .ram) in
-    let good : goodState (stateIn slot) ≡ true = passed (c .before .before .before .before .before .before .good-state .ensures) (c .before .before .before .before .before .if2 .left) in
+    let good : goodState (stateIn slot) ≡ true = state-good (c .before .before .before .before .before) in
     let size = right-size slot ram (c .before .before .before .before .before .before .before .before .before .refusal-before .ensures .none (c .before .before .before .before .before .before .before .before .if1 .left) .sizes) in
-    let above : stateIn slot .config .safe .0 < stateIn slot .safepointer .0 = omega (arith, goodState-facts (stateIn slot) good .safe≤safepointer, rw (c .before .before .before .state-in .ensures) at (c .before .if3 .left)) in
+    let above : stateIn slot .config .safe .0 < stateIn slot .safepointer .0 = omega (arith, goodState-facts (stateIn slot) good .safe≤safepointer, rw (c .before .before .before .state-in .ensures) at (c .before .if4 .left)) in
     rw (c .before .before .before .state-in .ensures) (size .1, good, above)
 
 caller-requires : tie.Need-caller-requires
@@ -101,7 +110,7 @@ code-at-requires c κs =
     let args = c .before .before .before .before .before .before .before .before .before .before .before .before .before .before .before .before .before .args in
     let slot : List ℕ = now (args .slot) in
     let ram : List ℕ = now (args .ram) in
-    let good : goodState (stateIn slot) ≡ true = passed (c .before .before .before .before .before .before .before .before .before .good-state .ensures) (c .before .before .before .before .before .before .before .before .if2 .left) in
+    let good : goodState (stateIn slot) ≡ true = state-good (c .before .before .before .before .before .before .before .before) in
     let size = right-size slot ram (c .before .before .before .before .before .before .before .before .before .before .before .before .refusal-before .ensures .none (c .before .before .before .before .before .before .before .before .before .before .before .if1 .left) .sizes) in
     (size .0, rw (c .caller .ensures) (rw (c .before .before .before .before .before .before .state-in .ensures) (caller≤trusted (stateIn slot) ram good _ (rw (c .before .before .before .before .before .before .state-in .ensures) at (c .before .before .top-frame .ensures)))))
 
@@ -110,9 +119,9 @@ ret-with-requires c κs =
     let args = c .before .before .before .before .before .before .before .before .before .before .before .before .before .before .before .before .before .before .before .args in
     let slot : List ℕ = now (args .slot) in
     let ram : List ℕ = now (args .ram) in
-    let good : goodState (stateIn slot) ≡ true = passed (c .before .before .before .before .before .before .before .before .before .before .before .good-state .ensures) (c .before .before .before .before .before .before .before .before .before .before .if2 .left) in
+    let good : goodState (stateIn slot) ≡ true = state-good (c .before .before .before .before .before .before .before .before .before .before) in
     let size = right-size slot ram (c .before .before .before .before .before .before .before .before .before .before .before .before .before .before .refusal-before .ensures .none (c .before .before .before .before .before .before .before .before .before .before .before .before .before .if1 .left) .sizes) in
-    let above : stateIn slot .config .safe .0 < stateIn slot .safepointer .0 = omega (arith, goodState-facts (stateIn slot) good .safe≤safepointer, rw (c .before .before .before .before .before .before .before .before .state-in .ensures) at (c .before .before .before .before .before .before .if3 .left)) in
+    let above : stateIn slot .config .safe .0 < stateIn slot .safepointer .0 = omega (arith, goodState-facts (stateIn slot) good .safe≤safepointer, rw (c .before .before .before .before .before .before .before .before .state-in .ensures) at (c .before .before .before .before .before .before .if4 .left)) in
     let range = c .before .code-at .ensures ∙ ap (rangeOf (configIn slot)) (c .before .before .caller .ensures) in
     rw (c .before .before .before .before .before .before .before .before .state-in .ensures) (size .1, good, above, rw (c .before .before .before .before .before .before .before .before .state-in .ensures) at (c .before .before .before .before .top-frame .ensures), rw (c .before .before .before .before .before .before .before .before .state-in .ensures) at range)
 
@@ -149,6 +158,7 @@ hmt-return-spec =
     same-length
     same-length-2
     returns
+    usual-requires
     good-state-requires
     refused-requires
     same-length-3

@@ -1,10 +1,14 @@
 -- `hmt_c::hmt_store` meets its contract. Assumes nothing.
 use Prim.Native.Nat.{ℕ}
+use mathlib.Core.Path.{_≡_}
+use mathlib.Core.Bool.{true}
+use mathlib.Core.Logic.{⊎-elim}
 use mathlib.Core.List.{List}
 use native.Mathlib.Omega.{arith}
 use denote.Ref.{now}
+use borrow.Author.Tests.{not-false}
 use lib.ListN.{set}
-use Rattle.rules.specs.State.{ramByte}
+use Rattle.rules.specs.State.{ramByte, goodState}
 use Rattle.rules.specs.Store.{storeAnswer, storeOf}
 use Rattle.rules.specs.Slot.{stateIn, wrongSize}
 use Rattle.laws.proofs.Tests.{failed, passed}
@@ -30,12 +34,15 @@ returns c =
     let ram : List ℕ = now (args .ram) in
     c .before .refusal-before .ensures .some (c .if1 .taken) (storeOf (stateIn slot) ram (ramByte (args .address)) (args .byte))
 
-good-state-requires : tie.Need-good-state-requires
-good-state-requires c κs =
+usual-requires : tie.Need-usual-requires
+usual-requires c κs =
     let args = c .before .before .before .before .before .before .before .args in
     let slot : List ℕ = now (args .slot) in
     let ram : List ℕ = now (args .ram) in
     right-size slot ram (c .before .before .refusal-before .ensures .none (c .before .if1 .left) .sizes) .0
+
+good-state-requires : tie.Need-good-state-requires
+good-state-requires c κs = usual-requires (c .before .before .before) κs
 
 refused-requires : tie.Need-refused-requires
 refused-requires c κs = search needs
@@ -48,11 +55,15 @@ same-length-4 c = search needs
 
 returns-2 : tie.Need-returns-2
 returns-2 c =
-    let args = c .before .before .before .before .before .before .before .before .before .before .args in
+    let args = c .before .before .before .before .before .before .before .before .before .before .before .before .before .args in
     let slot : List ℕ = now (args .slot) in
     let ram : List ℕ = now (args .ram) in
-    let ready = c .before .before .before .before .before .refusal-before .ensures .none (c .before .before .before .before .if1 .left) in
-    not-good slot ram ready (failed (c .before .before .good-state .ensures) (c .before .if2 .taken)) (wrongSize slot ram) (ready .sizes) _ (c .refused .ensures) _ _ _ _
+    let ready = c .before .before .before .before .before .before .before .before .refusal-before .ensures .none (c .before .before .before .before .before .before .before .if1 .left) in
+    not-good slot ram ready (failed (c .before .before .good-state .ensures) (c .before .if3 .taken)) (wrongSize slot ram) (ready .sizes) _ (c .refused .ensures) _ _ _ _
+
+-- the state is good, whichever of the two tests accepted it
+state-good : (c : tie.Joined2) → goodState (stateIn (now (c .before .before .before .before .before .before .before .before .before .args .slot))) ≡ true
+state-good c = ⊎-elim (λ w. passed (w .2 .ensures) (w .3 .left)) (λ w. c .before .usual .ensures (not-false _ (w .left))) (c .if2 .came)
 
 state-in-requires : tie.Need-state-in-requires
 state-in-requires c κs =
@@ -69,7 +80,7 @@ store-requires c κs =
     let args = c .before .before .before .before .before .before .before .before .before .before .before .before .before .args in
     let slot : List ℕ = now (args .slot) in
     let ram : List ℕ = now (args .ram) in
-    (right-size slot ram (c .before .before .before .before .before .before .before .before .refusal-before .ensures .none (c .before .before .before .before .before .before .before .if1 .left) .sizes) .1, rw (c .before .before .state-in .ensures) (passed (c .before .before .before .before .before .good-state .ensures) (c .before .before .before .before .if2 .left)))
+    (right-size slot ram (c .before .before .before .before .before .before .before .before .refusal-before .ensures .none (c .before .before .before .before .before .before .before .if1 .left) .sizes) .1, rw (c .before .before .state-in .ensures) (state-good (c .before .before .before .before)))
 
 packed-requires : tie.Need-packed-requires
 packed-requires c κs = search needs
@@ -98,6 +109,7 @@ hmt-store-spec =
     same-length
     same-length-2
     returns
+    usual-requires
     good-state-requires
     refused-requires
     same-length-3

@@ -9,13 +9,8 @@ use borrow.Author.Needs.{needs}
 use Rattle.map.proofs.blocks_alike.Statement.{statement}
 use Rattle.map.proofs.blocks_alike.Tie as tie
 
-mul-both : tie.Need-mul-both
-unfolding radix
-mul-both c = omega arith
-
-add-both : tie.Need-add-both
-unfolding radix
-add-both c = omega arith
+both-requires : tie.Need-both-requires
+both-requires c κs = c .before .pre .1 .1 .1
 
 map-byte-requires : tie.Need-map-byte-requires
 unfolding mapByte mapBytesFor dividedUp perByte
@@ -23,7 +18,7 @@ map-byte-requires c κs = omega arith
 
 bytes-alike-requires : tie.Need-bytes-alike-requires
 unfolding mapByte mapDigit mapBytesFor dividedUp perByte
-bytes-alike-requires c κs = (c .before .before .pre .0, omega (arith, c .before .before .pre .1))
+bytes-alike-requires c κs = (c .before .before .before .pre .0, omega (arith, c .before .before .before .pre .1))
 
 mul-alike : tie.Need-mul-alike
 mul-alike c = search needs
@@ -31,22 +26,26 @@ mul-alike c = search needs
 returns : tie.Need-returns
 unfolding radix mapDigit perByte
 returns c =
-    let codes = codes-of-bytes (c .before .before .before .before .args .bot) (c .before .before .before .before .args .ram .now) (c .before .before .before .before .args .k .0) _ _ (c .before .before .before .before .args .code) (c .before .before .map-byte .ensures) (c .before .before .before .before .pre .1 .0) (omega (arith, c .before .before .before .before .pre .1)) (c .before .bytes-alike .ensures .1 .0) in
+    let start = c .before .before .before .before .before .args in
+    let codes = codes-of-bytes (start .bot) (start .ram .now) (start .k .0) _ _ (start .code) (c .before .before .map-byte .ensures) (c .before .before .before .before .before .pre .1 .0) (omega (arith, c .before .before .before .before .before .pre .1)) (rw (c .before .before .before .both .ensures) at (c .before .bytes-alike .ensures .1 .0)) in
     (omega arith, (λ j l u. codes j l (omega arith), λ h. absurd (omega arith)))
 
 further-requires : tie.Need-further-requires
 unfolding mapBytesFor dividedUp perByte
 further-requires c κs = omega arith
 
-code-of-requires : tie.Need-code-of-requires
-unfolding mapByte mapBytesFor dividedUp perByte
-code-of-requires c κs = (c .before .before .before .before .before .pre .0, rw (c .further .ensures) (omega (arith, c .before .before .bytes-alike .ensures .0)))
+even-code-requires : tie.Need-even-code-requires
+unfolding mapByte mapDigit mapBytesFor dividedUp perByte
+even-code-requires c κs =
+    rw (c .further .ensures)
+    (c .before .before .before .before .before .before .pre .0, (omega (arith, c .before .before .bytes-alike .ensures .0), omega (arith, c .before .before .before .before .before .before .pre .1 .0)))
 
 returns-2 : tie.Need-returns-2
 unfolding radix mapDigit perByte
 returns-2 c =
-    let codes = codes-of-bytes (c .before .before .before .before .before .before .before .args .bot) (c .before .before .before .before .before .before .before .args .ram .now) (c .before .before .before .before .before .before .before .args .k .0) _ _ (c .before .before .before .before .before .before .before .args .code) (c .before .before .before .before .before .map-byte .ensures) (c .before .before .before .before .before .before .before .pre .1 .0) (omega (arith, c .before .before .before .before .before .before .before .pre .1)) (c .before .before .before .before .bytes-alike .ensures .1 .0) in
-    (omega arith, (codes, λ h e. c .if2 .taken ((rw (c .before .before .further .ensures) at (c .before .code-of .ensures)) ∙ e)))
+    let start = c .before .before .before .before .before .before .before .before .args in
+    let codes = codes-of-bytes (start .bot) (start .ram .now) (start .k .0) _ _ (start .code) (c .before .before .before .before .before .map-byte .ensures) (c .before .before .before .before .before .before .before .before .pre .1 .0) (omega (arith, c .before .before .before .before .before .before .before .before .pre .1)) (rw (c .before .before .before .before .before .before .both .ensures) at (c .before .before .before .before .bytes-alike .ensures .1 .0)) in
+    (omega arith, (codes, λ h e. c .if2 .taken ((rw (c .before .before .further .ensures) at (c .before .even-code .ensures)) ∙ e)))
 
 add-result : tie.Need-add-result
 add-result c = search needs
@@ -54,35 +53,22 @@ add-result c = search needs
 returns-3 : tie.Need-returns-3
 unfolding radix mapByte mapDigit perByte
 returns-3 c =
-    let bot = c .before .before .before .before .before .before .before .args .bot in
-    let ram = c .before .before .before .before .before .before .before .args .ram .now in
-    let k = c .before .before .before .before .before .before .before .args .k .0 in
-    let code = c .before .before .before .before .before .before .before .args .code in
+    let bot = c .before .before .before .before .before .before .before .before .args .bot in
+    let ram = c .before .before .before .before .before .before .before .before .args .ram .now in
+    let k = c .before .before .before .before .before .before .before .before .args .k .0 in
+    let code = c .before .before .before .before .before .before .before .before .args .code in
     let bytes = c .before .before .before .before .bytes-alike .result in
-    let codes = codes-of-bytes bot ram k _ _ code (c .before .before .before .before .before .map-byte .ensures) (c .before .before .before .before .before .before .before .pre .1 .0) (omega (arith, c .before .before .before .before .before .before .before .pre .1)) (c .before .before .before .before .bytes-alike .ensures .1 .0) in
-    let here : codeOf bot ram (k + bytes * 2) ≡ code = sym (rw (c .before .before .further .ensures) at (c .before .code-of .ensures)) ∙ c .if2 .left in
+    let codes = codes-of-bytes bot ram k _ _ code (c .before .before .before .before .before .map-byte .ensures) (c .before .before .before .before .before .before .before .before .pre .1 .0) (omega (arith, c .before .before .before .before .before .before .before .before .pre .1)) (rw (c .before .before .before .before .before .before .both .ensures) at (c .before .before .before .before .bytes-alike .ensures .1 .0)) in
+    let here : codeOf bot ram (k + bytes * 2) ≡ code = sym (rw (c .before .before .further .ensures) at (c .before .even-code .ensures)) ∙ c .if2 .left in
     let next : k + (bytes * 2 + 1) ≡ k + bytes * 2 + 1 = omega arith in (
       omega arith,
       (
         λ j l u. elim (ℕ-discrete j (k + bytes * 2)) [ yes e ↦ rw e here | no d ↦ codes j l (omega arith) ],
         λ h. rw next
-            (codes-differ bot ram (k + bytes * 2) (c .before .before .before .before .before .map-byte .result .0 + bytes) code (omega (arith, c .before .before .before .before .before .map-byte .ensures, c .before .before .before .before .before .before .before .pre .1)) (omega (arith, c .before .before .before .before .before .before .before .pre .1))
-            (c .before .before .before .before .before .before .shared-slice-known .given (c .before .before .before .before .before .map-byte .result .0 + bytes) .fits) (c .before .before .before .before .bytes-alike .ensures .1 .1 (omega arith)) here),
+            (codes-differ bot ram (k + bytes * 2) (c .before .before .before .before .before .map-byte .result .0 + bytes) code (omega (arith, c .before .before .before .before .before .map-byte .ensures, c .before .before .before .before .before .before .before .before .pre .1)) (omega (arith, c .before .before .before .before .before .before .before .before .pre .1))
+            (c .before .before .before .before .before .before .before .shared-slice-known .given (c .before .before .before .before .before .map-byte .result .0 + bytes) .fits) (rw (c .before .before .before .before .before .before .both .ensures) at (c .before .before .before .before .bytes-alike .ensures .1 .1 (omega arith))) here),
       ),
     )
 
 pub blocks-alike-spec : {M : Type 1} → statement M
-blocks-alike-spec =
-    tie.close
-    (tie.spec
-    mul-both
-    add-both
-    map-byte-requires
-    bytes-alike-requires
-    mul-alike
-    returns
-    further-requires
-    code-of-requires
-    returns-2
-    add-result
-    returns-3)
+blocks-alike-spec = tie.close (tie.spec both-requires map-byte-requires bytes-alike-requires mul-alike returns further-requires even-code-requires returns-2 add-result returns-3)

@@ -1,26 +1,22 @@
 -- `map::code_of` meets its contract. Assumes nothing.
-use native.Mathlib.Omega.{arith}
+use Rattle.rules.specs.Memory.{mapDigit, perByte}
 use borrow.Author.Needs.{needs}
-use Rattle.map.proofs.Halves.{low-half, high-half}
 use Rattle.map.proofs.code_of.Statement.{statement}
 use Rattle.map.proofs.code_of.Tie as tie
 
-map-byte-requires : tie.Need-map-byte-requires
-map-byte-requires c κs = search needs
-
-cast-byte : tie.Need-cast-byte
-cast-byte c = search needs
-
-shared-slice-read-byte : tie.Need-shared-slice-read-byte
-shared-slice-read-byte c = omega arith
+even-code-requires : tie.Need-even-code-requires
+unfolding mapDigit perByte
+even-code-requires c κs = (c .before .before .before .pre .0, (c .before .before .before .pre .1, c .if1 .taken))
 
 returns : tie.Need-returns
-returns c = low-half _ _ _ _ (c .before .before .before .before .map-byte .ensures) (c .if1 .taken)
+returns c = search needs
+
+odd-code-requires : tie.Need-odd-code-requires
+unfolding mapDigit perByte
+odd-code-requires c κs = (c .before .before .before .pre .0, (c .before .before .before .pre .1, c .if1 .left))
 
 returns-2 : tie.Need-returns-2
-returns-2 c =
-    high-half _ _ _ _ (c .before .before .before .before .map-byte .ensures) (c .if1 .left) (c .before .before .shared-slice-known2 .given (c .before .before .before .before .map-byte .result .0) .fits)
+returns-2 c = search needs
 
 pub code-of-spec : {M : Type 1} → statement M
-code-of-spec =
-    tie.close (tie.spec map-byte-requires cast-byte shared-slice-read-byte returns returns-2)
+code-of-spec = tie.close (tie.spec even-code-requires returns odd-code-requires returns-2)

@@ -1,9 +1,9 @@
 -- `map::fill` meets its contract. Assumes nothing.
-use Prim.Native.Nat.{suc, _-_}
+use Prim.Native.Nat.{_+_, _-_, _%_}
 use mathlib.Core.Path.{_≡_, _∙_}
 use native.Mathlib.Omega.{arith}
 use Rattle.rules.specs.Memory.{dividedUp, mapByte, mapDigit, mapBytesFor, perByte, setCodes}
-use Rattle.map.proofs.Runs.{run-first}
+use Rattle.map.proofs.Runs.{run-parts}
 use borrow.Author.Needs.{needs}
 use Rattle.map.proofs.fill.Statement.{statement}
 use Rattle.map.proofs.fill.Tie as tie
@@ -12,50 +12,32 @@ returns : tie.Need-returns
 unfolding setCodes
 returns c = rw (c .if1 .taken)
 
-fill-from-even-requires : tie.Need-fill-from-even-requires
-unfolding mapDigit perByte
-fill-from-even-requires c κs = (c .before .before .before .before .before .pre .0, (c .before .if2 .taken, c .before .before .before .before .before .pre .1))
-
-same-length : tie.Need-same-length
-same-length c = search needs
-
-returns-2 : tie.Need-returns-2
-returns-2 c = search needs
-
-set-code-requires : tie.Need-set-code-requires
+fill-to-even-requires : tie.Need-fill-to-even-requires
 unfolding mapByte mapBytesFor dividedUp perByte
-set-code-requires c κs = (c .before .before .before .before .before .pre .0, (omega arith, c .before .before .before .before .before .pre .1 .1))
+fill-to-even-requires c κs = (c .before .before .before .pre .0, (omega (arith, c .before .if1 .left), c .before .before .before .pre .1 .1))
 
 further-requires : tie.Need-further-requires
 unfolding mapBytesFor dividedUp perByte
 further-requires c κs = omega arith
 
 sub-fill-from-even : tie.Need-sub-fill-from-even
-sub-fill-from-even c = search needs
+sub-fill-from-even c = omega (arith, c .before .before .before .before .before .before .before .if1 .left)
 
-fill-from-even-requires-2 : tie.Need-fill-from-even-requires-2
-unfolding mapDigit mapBytesFor dividedUp perByte
-fill-from-even-requires-2 c κs = rw (c .further .ensures) (c .before .before .before .before .set-code .kept .1 .0 ∙ c .before .before .before .before .before .before .before .before .before .before .pre .0, (omega arith, (omega arith, c .before .before .before .before .before .before .before .before .before .before .pre .1 .1)))
+fill-from-even-requires : tie.Need-fill-from-even-requires
+unfolding mapByte mapDigit mapBytesFor dividedUp perByte
+fill-from-even-requires c κs =
+    let start = c .before .before .before .before .before .before .before .before .before .args in
+    let all : start .k .0 + start .k .0 % 2 + (start .n - start .k .0 % 2) ≡ start .k .0 + start .n = omega (arith, c .before .before .before .before .before .before .before .if1 .left) in
+    rw (c .further .ensures)
+    (c .before .before .before .before .before .fill-to-even .kept .1 .0 ∙ c .before .before .before .before .before .before .before .before .before .pre .0, (omega arith, (rw all (c .before .before .before .before .before .before .before .before .before .pre .1 .0), c .before .before .before .before .before .before .before .before .before .pre .1 .1)))
 
-same-length-2 : tie.Need-same-length-2
-same-length-2 c = search needs
+same-length : tie.Need-same-length
+same-length c = search needs
 
-returns-3 : tie.Need-returns-3
-returns-3 c =
-    let all : c .before .before .before .before .before .before .before .before .before .before .before .before .before .args .n ≡ suc (c .before .before .before .before .before .before .before .before .before .before .before .before .before .args .n - 1) = omega arith in
-    rw all ((rw (c .before .before .before .further .ensures, c .before .before .before .before .before .before .before .set-code .ensures) at (c .before .before .fill-from-even2 .ensures)) ∙ run-first _ _ _ _ _)
+returns-2 : tie.Need-returns-2
+unfolding mapDigit perByte
+returns-2 c =
+    (rw (c .before .before .before .further .ensures, c .before .before .before .before .before .before .before .before .fill-to-even .ensures) at (c .before .before .fill-from-even .ensures)) ∙ run-parts _ _ _ (c .before .before .before .before .before .before .before .before .before .before .before .before .args .k .0 % 2) (c .before .before .before .before .before .before .before .before .before .before .before .before .args .n) _ (omega (arith, c .before .before .before .before .before .before .before .before .before .before .if1 .left))
 
 pub fill-spec : {M : Type 1} → statement M
-fill-spec =
-    tie.close
-    (tie.spec
-    returns
-    fill-from-even-requires
-    same-length
-    returns-2
-    set-code-requires
-    further-requires
-    sub-fill-from-even
-    fill-from-even-requires-2
-    same-length-2
-    returns-3)
+fill-spec = tie.close (tie.spec returns fill-to-even-requires further-requires sub-fill-from-even fill-from-even-requires same-length returns-2)

@@ -31,9 +31,9 @@ further-requires : tie.Need-further-requires
 unfolding mapBytesFor dividedUp perByte
 further-requires c κs = omega arith
 
-set-code-requires : tie.Need-set-code-requires
-unfolding mapByte mapBytesFor dividedUp perByte
-set-code-requires c κs = (c .before .before .before .before .before .fill-bytes .kept .1 .0 ∙ c .before .before .before .before .before .before .before .before .before .pre .0, (rw (c .further .ensures) (omega arith), c .before .before .before .before .before .before .before .before .before .pre .1 .1 .1))
+set-even-requires : tie.Need-set-even-requires
+unfolding mapByte mapDigit mapBytesFor dividedUp perByte
+set-even-requires c κs = (c .before .before .before .before .before .fill-bytes .kept .1 .0 ∙ c .before .before .before .before .before .before .before .before .before .pre .0, rw (c .further .ensures) (omega arith, (omega (arith, c .before .before .before .before .before .before .before .before .before .pre .1 .0, c .before .before .if1 .left), c .before .before .before .before .before .before .before .before .before .pre .1 .1 .1)))
 
 same-length-2 : tie.Need-same-length-2
 same-length-2 c = search needs
@@ -43,18 +43,7 @@ unfolding perByte
 returns-2 c =
     let start = c .before .before .before .before .before .before .before .before .before .before .before .before .args in
     let even = from-even _ (start .bot) (start .ram .now) (start .k .0) (replicate (start .n / 2 * 2) (start .code)) (c .before .before .before .before .before .before .before .before .before .before .map-byte .ensures) (c .before .before .before .before .before .before .before .before .before .before .before .before .pre .1 .0) in
-    (rw (c .before .before .before .further .ensures, c .before .before .before .before .before .before .before .before .fill-bytes .ensures, even) at (c .before .before .set-code .ensures)) ∙ run-odd _ _ _ _ _ (c .before .before .before .before .before .if1 .left)
+    (rw (c .before .before .before .further .ensures, c .before .before .before .before .before .before .before .before .fill-bytes .ensures, even) at (c .before .before .set-even .ensures)) ∙ run-odd _ _ _ _ _ (c .before .before .before .before .before .if1 .left)
 
 pub fill-from-even-spec : {M : Type 1} → statement M
-fill-from-even-spec =
-    tie.close
-    (tie.spec
-    map-byte-requires
-    fill-bytes-requires
-    same-length
-    returns
-    sub-further
-    further-requires
-    set-code-requires
-    same-length-2
-    returns-2)
+fill-from-even-spec = tie.close (tie.spec map-byte-requires fill-bytes-requires same-length returns sub-further further-requires set-even-requires same-length-2 returns-2)

@@ -1,201 +1,178 @@
 -- `map::lowest_run` meets its contract. Assumes nothing.
-use Prim.Native.Nat.{ℕ, _+_, _-_, _≤_, _<_}
+use Prim.Native.Nat.{_+_, _-_, _≤_, _<_}
 use mathlib.Core.Path.{_≡_, refl, sym, ap, _∙_}
-use native.Mathlib.Decide.{ℕ-discrete}
 use native.Mathlib.Omega.{arith}
-use lib.Dec.{ltb}
-use borrow.Author.Tests.{ltb-true, ltb-false}
 use Rattle.rules.specs.declared.Block.{Block}
-use Rattle.rules.specs.Memory.{ramBytes, perByte, heapBlock, safeBlock, codeOf, freeCode}
-use Rattle.rules.specs.Malloc.{firstRun, lowestRun}
+use Rattle.rules.specs.declared.Config.{Config}
+use Rattle.rules.specs.Memory.{ramBytes, radix, perByte, mapDigit, mapByte, heapBlock, safeBlock, freeCode}
+use Rattle.rules.specs.Malloc.{lowestRun}
 use Rattle.laws.proofs.Good.{goodConfig-facts, heapBlock≤safeBlock}
 use Rattle.laws.proofs.Search.{search-past}
-use Rattle.laws.proofs.Tests.{byTest}
-use Rattle.map.proofs.Runs.{codes-free, run-found, run-used}
+use Rattle.map.proofs.Search.{Sought, sought-first, sought-more, sought-anew, sought-found, sought-completed}
 use Rattle.map.proofs.Within.{bot≤heap, bot≤safe, safeBlock≤ram, code<ram}
 use borrow.Author.Needs.{needs}
 use Rattle.map.proofs.lowest_run.Statement.{statement}
 use Rattle.map.proofs.lowest_run.Tie as tie
 
+-- what was known at the loop's head of any configuration is known of it now
 abbrev Inv-loop : tie.InvT-loop
-Inv-loop config ram n end start₀ run₀ start run =
-    (start .0 ≡ start₀ .0) × (run ≤ n + 1) × ((j : ℕ) → start₀ .0 ≤ j → j < start₀ .0 + run → codeOf (config .bot) ram j ≡ freeCode)
+Inv-loop ram n end run₀ start₀ at₀ free k₀ run start at k =
+    (start .0 ≡ start₀ .0) × (k .0 ≡ start .0 + run) × (run ≤ n + 1)
+    × ((c : Config) → Sought c ram n (start₀ .0) run₀ at₀ → Sought c ram n (start .0) run at)
 
 abbrev μ-loop : tie.MeasureT-loop
-μ-loop config ram n end start₀ run₀ start run = n + 1 - run
+μ-loop ram n end run₀ start₀ at₀ free k₀ run start at k = n + 1 - run
 
 abbrev Inv-search : tie.InvT-search
-Inv-search config ram n end start₀ start =
-    (end ≡ safeBlock config) × (safeBlock config ≤ ramBytes) × (heapBlock config ≤ start .0) × (start .0 ≤ safeBlock config + 1)
-    × (lowestRun config ram n ≡ firstRun config ram n (start .0) (safeBlock config - start .0))
+Inv-search ram n end run₀ start₀ at₀ free run start at =
+    (run ≤ 1) × ((c : Config) → Sought c ram n (start₀ .0) run₀ at₀ → Sought c ram n (start .0) run at)
 
 abbrev μ-search : tie.MeasureT-search
-μ-search config ram n end start₀ start = end + 1 - start .0
+μ-search ram n end run₀ start₀ at₀ free run start at = end - start .0
+
+end-is : (c : tie.After-block-of Inv-loop μ-loop Inv-search μ-search) → c .block-of .result .0 ≡ safeBlock (c .before .before .args .config)
+unfolding safeBlock
+end-is c = ap (λ (b : Block). b .0) (c .block-of .ensures)
+
+heap-is : (c : tie.After-block-of2 Inv-loop μ-loop Inv-search μ-search) → c .block-of2 .result .0 ≡ heapBlock (c .before .before .before .before .args .config)
+unfolding heapBlock
+heap-is c = ap (λ (b : Block). b .0) (c .block-of2 .ensures)
+
+first : (c : tie.After-both Inv-loop μ-loop Inv-search μ-search)
+    → Sought (c .before .before .before .before .before .before .before .before .before .before .before .args .config) (c .before .before .before .before .before .before .before .before .before .before .before .args .ram .now) (c .before .before .before .before .before .before .before .before .before .before .before .args .n) (c .before .before .before .before2 .result .0) (c .before .before .before .before .free-to-even .result) (c .before .before .map-byte .result .0)
+first c =
+    let one = c .before .before .before .before .free-to-even .ensures in
+    rw (c .before .before .before .before2 .ensures, c .before .before .map-byte .ensures, c .before .before .before .before .before .further .ensures)
+    (sought-first _ _ _ _ _ (heap-is (c .before .before .before .before .before .before .before)) (c .before .before .before .before .before .before .before .before .before .before .before .pre .1 .1) (one .0) (one .1 .0) (one .1 .1))
+
+-- the search as it stands in a turn of the inner loop, and before it
+module _ (c : tie.In-loop Inv-loop μ-loop Inv-search μ-search) where
+  abbrev config : Config
+  config = c .before .before .before .before .before .before .before .before .before .before .before .before .before .before .before .before .before .args .config
+
+  before-it : Sought config (c .before .before .before .before .before .before .before .before .before .before .before .before .before .before .before .before .before .args .ram .now) (c .before .before .before .before .before .before .before .before .before .before .before .before .before .before .before .before .before .args .n) (c .before .before .before .before .before .search .start .0) (c .before .before .before .before .before .search .run) (c .before .before .before .before .before .search .at)
+  before-it = c .before .before .before .before .before .search .inv .1 config (first (c .before .before .before .before .before .before))
+
+  now-it : Sought config (c .before .before .before .before .before .before .before .before .before .before .before .before .before .before .before .before .before .args .ram .now) (c .before .before .before .before .before .before .before .before .before .before .before .before .before .before .before .before .before .args .n) (c .before .loop .start .0) (c .before .loop .run) (c .before .loop .at)
+  now-it = c .before .loop .inv .3 config before-it
+
+  -- there is room for the run, so the byte that is read lies in RAM
+  fits : c .before .loop .start .0 + c .before .before .before .before .before .before .before .before .before .before .before .before .before .before .before .before .before .args .n ≤ safeBlock config
+  fits = omega (arith, end-is (c .before .before .before .before .before .before .before .before .before .before .before .before .before .before .before), c .before .loop .inv .0)
+
+  in-ram : c .before .loop .at < ramBytes
+  in-ram = rw (now-it .place) (code<ram config (c .before .before .before .before .before .before .before .before .before .before .before .before .before .before .before .before .before .pre .1 .0) _ (omega (arith, fits)))
 
 block-of-requires : tie.Need-block-of-requires Inv-loop μ-loop Inv-search μ-search
 block-of-requires c κs = bot≤safe _ (c .before .pre .1 .0)
 
 returns : tie.Need-returns Inv-loop μ-loop Inv-search μ-search
-unfolding safeBlock lowestRun
+unfolding lowestRun
 returns c =
-    let end : c .before .block-of .result .0 ≡ safeBlock (c .before .before .before .args .config) = ap (λ (b : Block). b .0) (c .before .block-of .ensures) in
-    sym (search-past (c .before .before .before .args .config) (c .before .before .before .args .ram .now) (c .before .before .before .args .n) _ _ (c .before .before .before .pre .1 .1) (omega arith))
+    let config = c .before .before .before .args .config in
+    sym (search-past config (c .before .before .before .args .ram .now) (c .before .before .before .args .n) _ _ (c .before .before .before .pre .1 .1) (omega (arith, end-is (c .before), heapBlock≤safeBlock (goodConfig-facts config (c .before .before .before .pre .1 .0)))))
 
 block-of-requires-2 : tie.Need-block-of-requires-2 Inv-loop μ-loop Inv-search μ-search
-block-of-requires-2 c κs = omega (arith, bot≤heap (c .before .before .before .args .config) (c .before .before .before .pre .1 .0))
-
-search-holds : tie.Need-search-holds Inv-loop μ-loop Inv-search μ-search
-unfolding heapBlock safeBlock lowestRun
-search-holds c =
-    let heap : c .block-of2 .result .0 ≡ heapBlock (c .before .before .before .before .args .config) = ap (λ (b : Block). b .0) (c .block-of2 .ensures) in (
-      ap (λ (b : Block). b .0) (c .before .before .block-of .ensures),
-      safeBlock≤ram _ (c .before .before .before .before .pre .1 .0),
-      omega arith,
-      omega (arith, heapBlock≤safeBlock (goodConfig-facts (c .before .before .before .before .args .config) (c .before .before .before .before .pre .1 .0))),
-      rw heap,
-    )
-
-loop-holds : tie.Need-loop-holds Inv-loop μ-loop Inv-search μ-search
-loop-holds c = (refl, omega arith, λ j l u. absurd (omega arith))
+block-of-requires-2 c κs = bot≤heap _ (c .before .before .before .pre .1 .0)
 
 further-requires : tie.Need-further-requires Inv-loop μ-loop Inv-search μ-search
-further-requires c κs = search needs
+unfolding mapDigit perByte
+further-requires c κs = omega (arith, heap-is (c .before), heapBlock≤safeBlock (goodConfig-facts _ (c .before .before .before .before .before .pre .1 .0)), safeBlock≤ram _ (c .before .before .before .before .before .pre .1 .0))
 
-look-requires : tie.Need-look-requires Inv-loop μ-loop Inv-search μ-search
-look-requires c κs = (c .before .before .before .before .before .before .before .before .before .before .pre .0, rw (c .further .ensures) (code<ram _ (c .before .before .before .before .before .before .before .before .before .before .pre .1 .0) _ (omega arith)))
+free-to-even-requires : tie.Need-free-to-even-requires Inv-loop μ-loop Inv-search μ-search
+free-to-even-requires c κs = (c .before .before .before .before .before .before .pre .0, rw (heap-is (c .before .before)) (code<ram _ (c .before .before .before .before .before .before .pre .1 .0) _ (heapBlock≤safeBlock (goodConfig-facts _ (c .before .before .before .before .before .before .pre .1 .0)))))
 
-enum-known-seen : tie.Need-enum-known-seen Inv-loop μ-loop Inv-search μ-search
-enum-known-seen c = search needs
+before-requires : tie.Need-before-requires Inv-loop μ-loop Inv-search μ-search
+unfolding mapDigit perByte
+before-requires c κs = rw (c .before .further .ensures) (omega (arith, c .free-to-even .ensures .0))
 
-add-run : tie.Need-add-run Inv-loop μ-loop Inv-search μ-search
-unfolding perByte
-add-run c =
-    let shown = rw (c .before .seen .given .1) at (c .before .before .before .look .ensures) in
-    omega (arith, shown .0, shown .1)
+map-byte-requires : tie.Need-map-byte-requires Inv-loop μ-loop Inv-search μ-search
+unfolding mapByte perByte
+map-byte-requires c κs =
+    let config = c .before .before .before .before .before .before .before .before .args .config in
+    let heap = code<ram config (c .before .before .before .before .before .before .before .before .pre .1 .0) _ (heapBlock≤safeBlock (goodConfig-facts _ (c .before .before .before .before .before .before .before .before .pre .1 .0))) in
+    rw (c .before .before .further .ensures) (omega (arith, heap, heap-is (c .before .before .before .before)))
 
-loop-less : tie.Need-loop-less Inv-loop μ-loop Inv-search μ-search
-unfolding perByte
-loop-less c =
-    let shown = rw (c .before .seen .given .1) at (c .before .before .before .look .ensures) in
-    omega (arith, shown .0, shown .1)
+cast-at : tie.Need-cast-at Inv-loop μ-loop Inv-search μ-search
+cast-at c = search needs
 
-loop-again : tie.Need-loop-again Inv-loop μ-loop Inv-search μ-search
-unfolding perByte
-loop-again c =
-    let inv = c .before .before .before .before .before .before .loop .inv in
-    let start = c .before .before .before .before .before .before .before .before .before .search .start .0 in
-    let shown = rw (c .before .seen .given .1, c .before .before .before .before .further .ensures, inv .0) at (c .before .before .before .look .ensures) in (
-      inv .0,
-      omega (arith, shown .1),
-      λ j l u. byTest (ltb j (start + c .before .before .before .before .before .before .loop .run)) (λ t. inv .2 j l (ltb-true _ _ t)) (λ t. shown .2 j (ltb-false _ _ t) (omega arith)),
-    )
+both-requires : tie.Need-both-requires Inv-loop μ-loop Inv-search μ-search
+unfolding radix
+both-requires c κs = omega arith
 
-enum-told : tie.Need-enum-told Inv-loop μ-loop Inv-search μ-search
-enum-told c = search needs
-
-add-if3 : tie.Need-add-if3 Inv-loop μ-loop Inv-search μ-search
-add-if3 c = omega arith
+search-holds : tie.Need-search-holds Inv-loop μ-loop Inv-search μ-search
+unfolding mapDigit perByte
+search-holds c = (omega (arith, c .before .before .before .before .free-to-even .ensures .0), λ _ s. s)
 
 further-requires-2 : tie.Need-further-requires-2 Inv-loop μ-loop Inv-search μ-search
-further-requires-2 c κs = rw (c .before .before .before .before .further .ensures) (omega arith)
+further-requires-2 c κs = omega (arith, c .before .before .search .inv .0, end-is (c .before .before .before .before .before .before .before .before .before .before .before .before), safeBlock≤ram _ (c .before .before .before .before .before .before .before .before .before .before .before .before .before .before .pre .1 .0))
 
-search-less : tie.Need-search-less Inv-loop μ-loop Inv-search μ-search
-search-less c = rw (c .further2 .ensures, c .before .before .before .before .before .further .ensures) (omega arith)
+loop-holds : tie.Need-loop-holds Inv-loop μ-loop Inv-search μ-search
+loop-holds c = (refl, ap (λ (b : Block). b .0) (c .further2 .ensures), omega (arith, c .before .before .before .search .inv .0), λ _ s. s)
 
-search-again : tie.Need-search-again Inv-loop μ-loop Inv-search μ-search
-search-again c =
-    let inv = c .before .before .before .before .before .before .before .before .before .before .search .inv in
-    let start = c .before .before .before .before .before .before .before .before .before .before .search .start .0 in
-    let run = c .before .before .before .before .before .before .before .loop .run in
-    let shown = rw (c .before .before .enum-told .given .1, c .before .before .before .before .before .further .ensures, c .before .before .before .before .before .before .before .loop .inv .0) at (c .before .before .before .before .look .ensures) in
-    let on : start + run + 2 ≡ start + (run + 1) + 1 = omega arith in
-    rw (c .further2 .ensures, c .before .before .before .before .before .further .ensures, c .before .before .before .before .before .before .before .loop .inv .0, on) (
-      inv .0,
-      inv .1,
-      omega arith,
-      omega arith,
-      inv .4 ∙ run-used _ _ _ start (run + 1) 1 (omega arith) (omega arith) (λ j l u. let e : j ≡ start + run + 1 = omega arith in rw e (shown .1)),
-    )
+shared-slice-read-byte : tie.Need-shared-slice-read-byte Inv-loop μ-loop Inv-search μ-search
+shared-slice-read-byte c = omega (arith, in-ram (c .before), c .before .before .before .before .before .before .before .before .before .before .before .before .before .before .before .before .before .before .pre .0)
 
-enum-known-seen-2 : tie.Need-enum-known-seen-2 Inv-loop μ-loop Inv-search μ-search
-enum-known-seen-2 c = search needs
+add-at : tie.Need-add-at Inv-loop μ-loop Inv-search μ-search
+add-at c = omega (arith, in-ram (c .before))
 
 further-requires-3 : tie.Need-further-requires-3 Inv-loop μ-loop Inv-search μ-search
-unfolding perByte
-further-requires-3 c κs =
-    let shown = rw (c .before .seen2 .given .1) at (c .before .before .before .look .ensures) in
-    rw (c .before .before .before .before .further .ensures) (omega (arith, shown .1))
+further-requires-3 c κs = omega (arith, fits (c .before), safeBlock≤ram _ (c .before .before .before .before .before .before .before .before .before .before .before .before .before .before .before .before .before .before .pre .1 .0), c .before .before .loop .inv .1)
 
-search-less-2 : tie.Need-search-less-2 Inv-loop μ-loop Inv-search μ-search
-unfolding perByte
-search-less-2 c =
-    let shown = rw (c .before .before .seen2 .given .1) at (c .before .before .before .before .look .ensures) in
-    rw (c .further3 .ensures, c .before .before .before .before .before .further .ensures) (omega (arith, shown .0))
+add-run : tie.Need-add-run Inv-loop μ-loop Inv-search μ-search
+add-run c = omega (arith, fits (c .before .before .before), safeBlock≤ram _ (c .before .before .before .before .before .before .before .before .before .before .before .before .before .before .before .before .before .before .before .before .pre .1 .0))
 
-search-again-2 : tie.Need-search-again-2 Inv-loop μ-loop Inv-search μ-search
-unfolding perByte
-search-again-2 c =
-    let inv = c .before .before .before .before .before .before .before .before .before .before .search .inv in
-    let shown = rw (c .before .before .seen2 .given .1, c .before .before .before .before .before .further .ensures, c .before .before .before .before .before .before .before .loop .inv .0) at (c .before .before .before .before .look .ensures) in
-    rw (c .further3 .ensures, c .before .before .before .before .before .further .ensures, c .before .before .before .before .before .before .before .loop .inv .0) (
-      inv .0,
-      inv .1,
-      omega arith,
-      omega (arith, shown .1),
-      inv .4 ∙ run-used _ _ _ _ (c .before .before .before .before .before .before .before .loop .run) _ (omega arith) (shown .0) (shown .2),
-    )
+loop-less : tie.Need-loop-less Inv-loop μ-loop Inv-search μ-search
+loop-less c = omega arith
+
+loop-again : tie.Need-loop-again Inv-loop μ-loop Inv-search μ-search
+unfolding radix perByte freeCode
+loop-again c =
+    let inv = c .before .before .before .before .loop .inv in
+    (inv .0, rw (c .before .further3 .ensures) (omega (arith, inv .1)), omega arith, λ config s. sought-more config _ _ _ _ _ (inv .3 config s) (c .if3 .taken ∙ c .before .before .before .before .before .before .before .before .before .both .ensures))
+
+completes-requires : tie.Need-completes-requires Inv-loop μ-loop Inv-search μ-search
+completes-requires c κs = c .before .before .before .loop-test .taken
+
+free-at-end-requires : tie.Need-free-at-end-requires Inv-loop μ-loop Inv-search μ-search
+free-at-end-requires c κs = search needs
+
+before-requires-2 : tie.Need-before-requires-2 Inv-loop μ-loop Inv-search μ-search
+before-requires-2 c κs = rw (c .before .before .before .before .further3 .ensures) (omega (arith, c .free-at-end .ensures .0))
+
+search-less : tie.Need-search-less Inv-loop μ-loop Inv-search μ-search
+search-less c =
+    let next : c .before .before .before .before .before .further3 .result .0 ≡ c .before .before .before .before .before .before .before .before .loop .k .0 + 2 = ap (λ (b : Block). b .0) (c .before .before .before .before .before .further3 .ensures) in
+    let anew : c .before3 .result .0 ≡ c .before .before .before .before .before .further3 .result .0 - c .before .free-at-end .result = ap (λ (b : Block). b .0) (c .before3 .ensures) in
+    omega (arith, c .before .before .before .before .before .before .before .before .loop .inv .0, c .before .before .before .before .before .before .before .before .loop .inv .1, c .before .free-at-end .ensures .0, fits (c .before .before .before .before .before .before .before), end-is (c .before .before .before .before .before .before .before .before .before .before .before .before .before .before .before .before .before .before .before .before .before .before))
+
+search-again : tie.Need-search-again Inv-loop μ-loop Inv-search μ-search
+unfolding radix freeCode
+search-again c =
+    let inv = c .before .before .before .before .before .before .before .before .loop .inv in
+    let end = c .before .free-at-end .ensures in
+    let mixed = c .before .before .before .before .if3 .left in
+    let byte = c .before .before .before .before .before .before .shared-slice-known2 .given (c .before .before .before .before .before .before .before .before .loop .at) .fits in
+    rw (c .before3 .ensures, c .before .before .before .before .before .further3 .ensures, inv .1)
+    (end .0, λ config s. sought-anew config _ _ _ _ _ (inv .3 config (c .before .before .before .before .before .before .before .before .before .before .before .before .search .inv .1 config s)) _ (c .before .before .before .before .before .before .before .loop-test .taken) byte (λ e. mixed (e ∙ sym (c .before .before .before .before .before .before .before .before .before .before .before .before .before .both .ensures))) (c .before .before .before .completes .ensures .1 (c .before .before .if4 .left)) (end .0) (end .1 .0) (end .1 .1))
 
 returns-2 : tie.Need-returns-2 Inv-loop μ-loop Inv-search μ-search
-returns-2 c = sym (c .before .before .search .inv .4 ∙ search-past _ _ _ _ _ (c .before .before .before .before .before .before .before .pre .1 .1) (omega arith))
+returns-2 c =
+    let same = c .before .before .search .inv .1 (c .before .before .before .before .before .before .before .before .before .before .before .before .before .before .args .config) (first (c .before .before .before)) .same in
+    sym (same ∙ search-past _ _ _ _ _ (c .before .before .before .before .before .before .before .before .before .before .before .before .before .before .pre .1 .1) (omega (arith, end-is (c .before .before .before .before .before .before .before .before .before .before .before .before))))
 
 returns-3 : tie.Need-returns-3 Inv-loop μ-loop Inv-search μ-search
 returns-3 c =
-    let inv = c .before .before .before .before .before .before .before .before .before .search .inv in
-    let start = c .before .before .before .before .before .before .before .before .before .search .start .0 in
-    let run = c .before .before .before .before .before .before .loop .run in
-    let shown = rw (c .before .enum-told .given .1, c .before .before .before .before .further .ensures, c .before .before .before .before .before .before .loop .inv .0) at (c .before .before .before .look .ensures) in
-    let here =
-    inv .4
-    ∙ run-found _ _ _ start
-    (codes-free _ _ _ _ (inv .2) (omega arith)
-    (λ j l u. elim (ℕ-discrete j (start + run)) [ yes e ↦ rw e (shown .0) | no d ↦ c .before .before .before .before .before .before .loop .inv .2 j l (omega arith) ]))
-    (omega (arith, c .before .before .before .before .before .before .before .before .before .before .before .before .before .before .pre .1 .1)) in
-    sym (rw (← c .before .before .before .before .before .before .loop .inv .0) at here)
+    let all = c .before .completes .ensures .0 (c .if4 .taken) in
+    let found = sought-completed _ _ _ _ _ _ (now-it (c .before .before .before .before .before)) (all .0) (all .1) (fits (c .before .before .before .before .before)) in
+    sym found
 
 returns-4 : tie.Need-returns-4 Inv-loop μ-loop Inv-search μ-search
 returns-4 c =
-    let inv = c .before .before .before .before .search .inv in
-    let here = inv .4 ∙ run-found _ _ _ _ (codes-free _ _ _ _ (inv .2) (omega arith) (λ j l u. c .before .loop .inv .2 j l (omega arith))) (omega (arith, c .before .before .before .before .before .before .before .before .before .pre .1 .1)) in
-    sym (rw (← c .before .loop .inv .0) at here)
+    let config = c .before .before .before .before .before .before .before .before .before .before .before .before .before .before .before .before .before .args .config in
+    let before = c .before .before .before .before .before .search .inv .1 config (first (c .before .before .before .before .before .before)) in
+    let fits : c .before .loop .start .0 + c .before .before .before .before .before .before .before .before .before .before .before .before .before .before .before .before .before .args .n ≤ safeBlock config = omega (arith, end-is (c .before .before .before .before .before .before .before .before .before .before .before .before .before .before .before), c .before .loop .inv .0) in
+    sym (sought-found _ _ _ _ _ _ (c .before .loop .inv .3 config before) (omega arith) fits (c .before .before .before .before .before .before .before .before .before .before .before .before .before .before .before .before .before .pre .1 .1))
 
 pub lowest-run-spec : {M : Type 1} → statement M
-lowest-run-spec =
-    tie.close
-    (tie.spec
-    Inv-loop
-    μ-loop
-    Inv-search
-    μ-search
-    block-of-requires
-    returns
-    block-of-requires-2
-    search-holds
-    loop-holds
-    further-requires
-    look-requires
-    enum-known-seen
-    add-run
-    loop-less
-    loop-again
-    enum-told
-    add-if3
-    further-requires-2
-    search-less
-    search-again
-    enum-known-seen-2
-    further-requires-3
-    search-less-2
-    search-again-2
-    returns-2
-    returns-3
-    returns-4)
+lowest-run-spec = tie.close (tie.spec Inv-loop μ-loop Inv-search μ-search block-of-requires returns block-of-requires-2 further-requires free-to-even-requires before-requires map-byte-requires cast-at both-requires search-holds further-requires-2 loop-holds shared-slice-read-byte add-at further-requires-3 add-run loop-less loop-again completes-requires free-at-end-requires before-requires-2 search-less search-again returns-2 returns-3 returns-4)

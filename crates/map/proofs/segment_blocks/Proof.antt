@@ -1,136 +1,94 @@
 -- `map::segment_blocks` meets its contract. Assumes nothing.
-use Prim.Native.Nat.{_+_}
-use mathlib.Core.Path.{_≡_, sym, ap, _∙_}
+use Prim.Native.Nat.{_+_, _-_, _%_, _≤_, _<_}
+use mathlib.Core.Path.{_≡_, ap}
+use mathlib.Core.Logic.{_≢_}
 use native.Mathlib.Nat.{add-zero}
 use native.Mathlib.Omega.{arith}
+use borrow.Author.Tests.{not-true, not-false}
 use Rattle.rules.specs.declared.Block.{Block}
-use Rattle.rules.specs.Memory.{perByte, mapDigit, safeBlock, laterCode, ownerOf}
-use Rattle.laws.proofs.Codes.{ownerOf-le}
+use Rattle.rules.specs.Memory.{mapDigit, perByte, safeBlock, codeOf, laterCode, ownerOf, trusted}
+use Rattle.laws.proofs.Codes.{laterCode-lt, ownerOf-le}
 use Rattle.laws.proofs.Good.{goodConfig-facts, safeBlock≤blocks}
 use Rattle.laws.proofs.Map.{code-lt}
-use Rattle.map.proofs.Runs.{later-lt, segment-count}
+use Rattle.map.proofs.Runs.{even-fits, segment-count}
 use Rattle.map.proofs.Within.{bot≤safe, safeBlock≤ram, code<ram, room}
-use borrow.Author.Needs.{needs}
 use Rattle.map.proofs.segment_blocks.Statement.{statement}
 use Rattle.map.proofs.segment_blocks.Tie as tie
+
+owner : (c : tie.Start) → c .args .domain ≤ trusted
+owner c = rw (← c .pre .1 .1 .1) (ownerOf-le _ (code-lt _ _ _))
+
+-- where the heap ends, and the code of a block that continues the segment
+end-is : (c : tie.After-block-of) → c .block-of .result .0 ≡ safeBlock (c .before .before .args .config)
+unfolding safeBlock
+end-is c = ap (λ (b : Block). b .0) (c .block-of .ensures)
+
+later-is : (c : tie.After-later-code)
+    → c .later-code .result ≡ laterCode (ownerOf (codeOf (c .before .before .before .args .config .bot) (c .before .before .before .args .ram .now) (c .before .before .before .args .k .0)))
+later-is c = rw (c .before .before .before .pre .1 .1 .1) (c .later-code .ensures)
+
+-- the next block goes on with the segment, if it is odd
+goes-on : (c : tie.Else1) → let next = c .before .before .before .before .before .before .args .k .0 + 1 in next % 2 ≢ 0
+    → (next ≢ c .before .before .before .before .block-of .result .0) × (codeOf (c .before .before .before .before .before .before .args .config .bot) (c .before .before .before .before .before .before .args .ram .now) next ≡ c .before .before .before .later-code .result)
+unfolding mapDigit perByte
+goes-on c = rw (c .before .before .further .ensures) at (c .before .alike-to-even .ensures .0 (not-false _ (c .if1 .left)))
+
+fits : (c : tie.Else1) → let next = c .before .before .before .before .before .before .args .k .0 + 1 in next + next % 2 ≤ c .before .before .before .before .block-of .result .0
+fits c = even-fits _ _ (omega (arith, end-is (c .before .before .before .before))) (λ odd. goes-on c odd .0)
 
 block-of-requires : tie.Need-block-of-requires
 block-of-requires c κs = bot≤safe _ (c .before .pre .1 .0)
 
-code-of-requires : tie.Need-code-of-requires
-code-of-requires c κs = (c .before .before .pre .0, code<ram _ (c .before .before .pre .1 .0) _ (c .before .before .pre .1 .1))
-
-owner-of-requires : tie.Need-owner-of-requires
-owner-of-requires c κs = search needs
-
 later-code-requires : tie.Need-later-code-requires
-later-code-requires c κs = rw (c .owner-of .ensures) (ownerOf-le _ (rw (c .before .code-of .ensures) (code-lt (c .before .before .before .before .args .config .bot) (c .before .before .before .before .args .ram .now) (c .before .before .before .before .args .k .0))))
+later-code-requires c κs = owner (c .before .before)
 
 further-requires : tie.Need-further-requires
-further-requires c κs = omega (arith, c .before .before .before .before .before .pre .1 .1, safeBlock≤ram (c .before .before .before .before .before .args .config) (c .before .before .before .before .before .pre .1 .0))
+further-requires c κs = omega (arith, safeBlock≤ram _ (c .before .before .before .pre .1 .0))
 
-sub-blocks-alike : tie.Need-sub-blocks-alike
-unfolding safeBlock
-sub-blocks-alike c = rw (c .before .before .before .further .ensures, c .before .before .before .before .before .before .before .block-of .ensures) (omega (arith, c .before .before .before .before .before .before .before .before .before .pre .1 .1))
-
-blocks-alike-requires : tie.Need-blocks-alike-requires
-unfolding safeBlock mapDigit perByte
-blocks-alike-requires c κs =
-    let end : c .before .before .before .before .before .before .before .block-of .result .0 ≡ safeBlock (c .before .before .before .before .before .before .before .before .before .args .config) = ap (λ (b : Block). b .0) (c .before .before .before .before .before .before .before .block-of .ensures) in
-    let next : c .before .before .before .further .result .0 ≡ c .before .before .before .before .before .before .before .before .before .args .k .0 + 1 = ap (λ (b : Block). b .0) (c .before .before .before .further .ensures) in
-    (c .before .before .before .before .before .before .before .before .before .pre .0, (c .before .if1 .taken, (room (c .before .before .before .before .before .before .before .before .before .args .config) (c .before .before .before .before .before .before .before .before .before .pre .1 .0) _ (omega (arith, c .before .before .before .before .before .before .before .before .before .pre .1 .1, safeBlock≤blocks (goodConfig-facts (c .before .before .before .before .before .before .before .before .before .args .config) (c .before .before .before .before .before .before .before .before .before .pre .1 .0)))), later-lt (c .before .before .before .before .before .before .before .before .before .args .config .bot) (c .before .before .before .before .before .before .before .before .before .args .ram .now) (c .before .before .before .before .before .before .before .before .before .args .k .0) _ (c .before .before .before .before .later-code .ensures ∙ ap laterCode (c .before .before .before .before .before .owner-of .ensures ∙ ap ownerOf (c .before .before .before .before .before .before .code-of .ensures))))))
-
-add-result : tie.Need-add-result
-unfolding safeBlock
-add-result c =
-    let end : c .before .before .before .before .before .before .before .before .block-of .result .0 ≡ safeBlock (c .before .before .before .before .before .before .before .before .before .before .args .config) = ap (λ (b : Block). b .0) (c .before .before .before .before .before .before .before .before .block-of .ensures) in
-    omega (arith, safeBlock≤ram (c .before .before .before .before .before .before .before .before .before .before .args .config) (c .before .before .before .before .before .before .before .before .before .before .pre .1 .0))
+alike-to-even-requires : tie.Need-alike-to-even-requires
+alike-to-even-requires c κs = rw (c .further .ensures) (c .before .before .before .before .pre .0, code<ram _ (c .before .before .before .before .pre .1 .0) _ (omega arith))
 
 returns : tie.Need-returns
-unfolding safeBlock
 returns c =
-    let end : c .before .before .before .before .before .before .before .before .block-of .result .0 ≡ safeBlock (c .before .before .before .before .before .before .before .before .before .before .args .config) = ap (λ (b : Block). b .0) (c .before .before .before .before .before .before .before .before .block-of .ensures) in
-    let next : c .before .before .before .before .further .result .0 ≡ c .before .before .before .before .before .before .before .before .before .before .args .k .0 + 1 = ap (λ (b : Block). b .0) (c .before .before .before .before .further .ensures) in
-    segment-count (c .before .before .before .before .before .before .before .before .before .before .args .config) (c .before .before .before .before .before .before .before .before .before .before .args .ram .now) (c .before .before .before .before .before .before .before .before .before .before .args .k .0) (1 + c .blocks-alike .result) (c .before .before .before .before .further .result .0) (c .blocks-alike .result) (c .before .before .before .before .before .later-code .result)
-    (c .before .before .before .before .before .later-code .ensures ∙ ap laterCode (c .before .before .before .before .before .before .owner-of .ensures ∙ ap ownerOf (c .before .before .before .before .before .before .before .code-of .ensures))) (omega arith) (omega arith) (omega (arith, c .before .before .before .before .before .before .before .before .before .before .pre .1 .1)) (λ j l u. absurd (omega arith)) (c .blocks-alike .ensures .1 .0) (λ h. c .blocks-alike .ensures .1 .1 (omega arith))
-
-returns-2 : tie.Need-returns-2
-unfolding safeBlock
-returns-2 c =
-    let end : c .before .before .before .before .before .before .before .before .block-of .result .0 ≡ safeBlock (c .before .before .before .before .before .before .before .before .before .before .args .config) = ap (λ (b : Block). b .0) (c .before .before .before .before .before .before .before .before .block-of .ensures) in
-    let next : c .before .before .before .before .further .result .0 ≡ c .before .before .before .before .before .before .before .before .before .before .args .k .0 + 1 = ap (λ (b : Block). b .0) (c .before .before .before .before .further .ensures) in
-    segment-count (c .before .before .before .before .before .before .before .before .before .before .args .config) (c .before .before .before .before .before .before .before .before .before .before .args .ram .now) (c .before .before .before .before .before .before .before .before .before .before .args .k .0) 1 (c .before .before .before .before .further .result .0) 0 (c .before .before .before .before .before .later-code .result)
-    (c .before .before .before .before .before .later-code .ensures ∙ ap laterCode (c .before .before .before .before .before .before .owner-of .ensures ∙ ap ownerOf (c .before .before .before .before .before .before .before .code-of .ensures))) (omega arith) (omega arith) (omega arith) (λ j l u. absurd (omega arith)) (λ j l u. absurd (omega arith)) (λ h. absurd (omega arith))
-
-code-of-requires-2 : tie.Need-code-of-requires-2
-unfolding safeBlock
-code-of-requires-2 c κs =
-    let end : c .before .before .before .before .before .before .before .before .block-of .result .0 ≡ safeBlock (c .before .before .before .before .before .before .before .before .before .before .args .config) = ap (λ (b : Block). b .0) (c .before .before .before .before .before .before .before .before .block-of .ensures) in
-    let next : c .before .before .before .before .further .result .0 ≡ c .before .before .before .before .before .before .before .before .before .before .args .k .0 + 1 = ap (λ (b : Block). b .0) (c .before .before .before .before .further .ensures) in
-    (c .before .before .before .before .before .before .before .before .before .before .pre .0, code<ram (c .before .before .before .before .before .before .before .before .before .before .args .config) (c .before .before .before .before .before .before .before .before .before .before .pre .1 .0) _ (omega (arith, c .before .before .before .before .before .before .before .before .before .before .pre .1 .1)))
-
-returns-3 : tie.Need-returns-3
-unfolding safeBlock
-returns-3 c =
-    let next : c .before .before .before .before .before .before .further .result .0 ≡ c .before .before .before .before .before .before .before .before .before .before .before .before .args .k .0 + 1 = ap (λ (b : Block). b .0) (c .before .before .before .before .before .before .further .ensures) in
-    segment-count (c .before .before .before .before .before .before .before .before .before .before .before .before .args .config) (c .before .before .before .before .before .before .before .before .before .before .before .before .args .ram .now) (c .before .before .before .before .before .before .before .before .before .before .before .before .args .k .0) 1 (c .before .before .before .before .before .before .further .result .0) 0 (c .before .before .before .before .before .before .before .later-code .result)
-    (c .before .before .before .before .before .before .before .later-code .ensures ∙ ap laterCode (c .before .before .before .before .before .before .before .before .owner-of .ensures ∙ ap ownerOf (c .before .before .before .before .before .before .before .before .before .code-of .ensures))) (omega arith) (omega arith) (omega (arith, c .before .before .before .before .before .before .before .before .before .before .before .before .pre .1 .1)) (λ j l u. absurd (omega arith)) (λ j l u. absurd (omega arith)) (λ h. rw add-zero (λ e. omega (arith, c .before .code-of2 .ensures)))
+    let next = c .before .before .before .before .before .before .args .k .0 + 1 in
+    let ends = end-is (c .before .before .before .before) in
+    let other = rw (c .before .before .further .ensures) at (c .before .alike-to-even .ensures .1 (not-true _ (c .if1 .taken))) in
+    segment-count _ _ _ 1 next 0 _ (later-is (c .before .before .before)) (omega arith) (omega arith) (omega arith) (λ j l u. absurd (omega arith)) (λ j l u. absurd (omega arith))
+    (λ h. rw add-zero (other (omega (arith, ends))))
 
 further-requires-2 : tie.Need-further-requires-2
-further-requires-2 c κs =
-    let next : c .before .before .before .before .before .before .further .result .0 ≡ c .before .before .before .before .before .before .before .before .before .before .before .before .args .k .0 + 1 = ap (λ (b : Block). b .0) (c .before .before .before .before .before .before .further .ensures) in
-    omega (arith, c .before .before .before .before .before .before .before .before .before .before .before .before .pre .1 .1, safeBlock≤ram (c .before .before .before .before .before .before .before .before .before .before .before .before .args .config) (c .before .before .before .before .before .before .before .before .before .before .before .before .pre .1 .0))
+further-requires-2 c κs = rw (c .before .before .before .further .ensures) (omega (arith, safeBlock≤ram _ (c .before .before .before .before .before .before .before .pre .1 .0)))
 
-sub-blocks-alike-2 : tie.Need-sub-blocks-alike-2
-unfolding safeBlock
-sub-blocks-alike-2 c =
-    let end : c .before .before .before .before .before .before .before .before .before .before .before .before .block-of .result .0 ≡ safeBlock (c .before .before .before .before .before .before .before .before .before .before .before .before .before .before .args .config) = ap (λ (b : Block). b .0) (c .before .before .before .before .before .before .before .before .before .before .before .before .block-of .ensures) in
-    let next : c .before .before .before .before .before .before .before .before .further .result .0 ≡ c .before .before .before .before .before .before .before .before .before .before .before .before .before .before .args .k .0 + 1 = ap (λ (b : Block). b .0) (c .before .before .before .before .before .before .before .before .further .ensures) in
-    rw (c .before .further2 .ensures) (omega (arith, c .before .before .before .before .before .before .before .before .before .before .before .before .before .before .pre .1 .1))
+sub-result : tie.Need-sub-result
+sub-result c = rw (c .before .before .further2 .ensures, c .before .before .before .before .before .before .further .ensures) (omega arith)
 
-blocks-alike-requires-2 : tie.Need-blocks-alike-requires-2
-unfolding safeBlock mapDigit perByte
-blocks-alike-requires-2 c κs =
-    let end : c .before .before .before .before .before .before .before .before .before .before .before .before .block-of .result .0 ≡ safeBlock (c .before .before .before .before .before .before .before .before .before .before .before .before .before .before .args .config) = ap (λ (b : Block). b .0) (c .before .before .before .before .before .before .before .before .before .before .before .before .block-of .ensures) in
-    let next : c .before .before .before .before .before .before .before .before .further .result .0 ≡ c .before .before .before .before .before .before .before .before .before .before .before .before .before .before .args .k .0 + 1 = ap (λ (b : Block). b .0) (c .before .before .before .before .before .before .before .before .further .ensures) in
-    let even : c .before .further2 .result .0 ≡ c .before .before .before .before .before .before .before .before .further .result .0 + 1 = ap (λ (b : Block). b .0) (c .before .further2 .ensures) in
-    (c .before .before .before .before .before .before .before .before .before .before .before .before .before .before .pre .0, (omega (arith, c .before .before .before .before .before .before .if1 .left), (room (c .before .before .before .before .before .before .before .before .before .before .before .before .before .before .args .config) (c .before .before .before .before .before .before .before .before .before .before .before .before .before .before .pre .1 .0) _ (omega (arith, c .before .before .before .before .before .before .before .before .before .before .before .before .before .before .pre .1 .1, safeBlock≤blocks (goodConfig-facts (c .before .before .before .before .before .before .before .before .before .before .before .before .before .before .args .config) (c .before .before .before .before .before .before .before .before .before .before .before .before .before .before .pre .1 .0)))), later-lt (c .before .before .before .before .before .before .before .before .before .before .before .before .before .before .args .config .bot) (c .before .before .before .before .before .before .before .before .before .before .before .before .before .before .args .ram .now) (c .before .before .before .before .before .before .before .before .before .before .before .before .before .before .args .k .0) _ (c .before .before .before .before .before .before .before .before .before .later-code .ensures ∙ ap laterCode (c .before .before .before .before .before .before .before .before .before .before .owner-of .ensures ∙ ap ownerOf (c .before .before .before .before .before .before .before .before .before .before .before .code-of .ensures))))))
+sub-blocks-alike : tie.Need-sub-blocks-alike
+sub-blocks-alike c = rw (c .before .before .before .further2 .ensures, c .before .before .before .before .before .before .before .further .ensures) (fits (c .before .before .before .before .before))
 
-add-result-2 : tie.Need-add-result-2
-unfolding safeBlock
-add-result-2 c =
-    let end : c .before .before .before .before .before .before .before .before .before .before .before .before .before .block-of .result .0 ≡ safeBlock (c .before .before .before .before .before .before .before .before .before .before .before .before .before .before .before .args .config) = ap (λ (b : Block). b .0) (c .before .before .before .before .before .before .before .before .before .before .before .before .before .block-of .ensures) in
-    omega (arith, safeBlock≤ram (c .before .before .before .before .before .before .before .before .before .before .before .before .before .before .before .args .config) (c .before .before .before .before .before .before .before .before .before .before .before .before .before .before .before .pre .1 .0))
+blocks-alike-requires : tie.Need-blocks-alike-requires
+unfolding mapDigit perByte
+blocks-alike-requires c κs =
+    let pre = c .before .before .before .before .before .before .before .before .before .before .before .pre in
+    let next = c .before .before .before .before .before .before .before .before .before .before .before .args .k .0 + 1 in
+    let end = c .before .before .before .before .before .before .before .before .before .block-of .result .0 in
+    let ends = end-is (c .before .before .before .before .before .before .before .before .before) in
+    let all : next + next % 2 + (end - (next + next % 2)) ≡ end = omega (arith, fits (c .before .before .before .before .before)) in
+    rw (c .before .before .before .further2 .ensures, c .before .before .before .before .before .before .before .further .ensures)
+    (pre .0, (omega arith, (rw all (room _ (pre .1 .0) _ (omega (arith, ends, safeBlock≤blocks (goodConfig-facts _ (pre .1 .0))))), rw (c .before .before .before .before .before .before .before .before .later-code .ensures) (laterCode-lt _ (owner (c .before .before .before .before .before .before .before .before .before .before .before))))))
 
-returns-4 : tie.Need-returns-4
-unfolding safeBlock
-returns-4 c =
-    let end : c .before .before .before .before .before .before .before .before .before .before .before .before .before .block-of .result .0 ≡ safeBlock (c .before .before .before .before .before .before .before .before .before .before .before .before .before .before .before .args .config) = ap (λ (b : Block). b .0) (c .before .before .before .before .before .before .before .before .before .before .before .before .before .block-of .ensures) in
-    let next : c .before .before .before .before .before .before .before .before .before .further .result .0 ≡ c .before .before .before .before .before .before .before .before .before .before .before .before .before .before .before .args .k .0 + 1 = ap (λ (b : Block). b .0) (c .before .before .before .before .before .before .before .before .before .further .ensures) in
-    let even : c .before .before .further2 .result .0 ≡ c .before .before .before .before .before .before .before .before .before .further .result .0 + 1 = ap (λ (b : Block). b .0) (c .before .before .further2 .ensures) in
-    segment-count (c .before .before .before .before .before .before .before .before .before .before .before .before .before .before .before .args .config) (c .before .before .before .before .before .before .before .before .before .before .before .before .before .before .before .args .ram .now) (c .before .before .before .before .before .before .before .before .before .before .before .before .before .before .before .args .k .0) (2 + c .blocks-alike2 .result) (c .before .before .further2 .result .0) (c .blocks-alike2 .result) (c .before .before .before .before .before .before .before .before .before .before .later-code .result)
-    (c .before .before .before .before .before .before .before .before .before .before .later-code .ensures ∙ ap laterCode (c .before .before .before .before .before .before .before .before .before .before .before .owner-of .ensures ∙ ap ownerOf (c .before .before .before .before .before .before .before .before .before .before .before .before .code-of .ensures))) (omega arith) (omega arith) (omega (arith, c .before .before .before .before .before .before .before .before .before .before .before .before .before .before .before .pre .1 .1))
-    (λ j l u. let here : j ≡ c .before .before .before .before .before .before .before .before .before .further .result .0 = omega arith in rw here (sym (c .before .before .before .before .code-of2 .ensures) ∙ c .before .before .before .if3 .left))
-    (c .blocks-alike2 .ensures .1 .0) (λ h. c .blocks-alike2 .ensures .1 .1 (omega arith))
+add-result : tie.Need-add-result
+add-result c = rw (c .before .before .before .before .further2 .ensures, c .before .before .before .before .before .before .before .before .further .ensures) (omega (arith, end-is (c .before .before .before .before .before .before .before .before .before .before), safeBlock≤ram _ (c .before .before .before .before .before .before .before .before .before .before .before .before .pre .1 .0), fits (c .before .before .before .before .before .before)))
+
+returns-2 : tie.Need-returns-2
+returns-2 c =
+    let next = c .before .before .before .before .before .before .before .before .before .before .before .before .args .k .0 + 1 in
+    let here = fits (c .before .before .before .before .before .before) in
+    let ends = end-is (c .before .before .before .before .before .before .before .before .before .before) in
+    let alike = rw (c .before .before .before .before .further2 .ensures, c .before .before .before .before .before .before .before .before .further .ensures) at (c .blocks-alike .ensures) in
+    rw (c .before .before .before .before .further2 .ensures, c .before .before .before .before .before .before .before .before .further .ensures)
+    (segment-count _ _ _ _ (next + next % 2) (c .blocks-alike .result) _ (later-is (c .before .before .before .before .before .before .before .before .before)) (omega arith) (omega arith) (omega (arith, alike .0))
+    (λ j l u. let here : j ≡ next = omega arith in rw here (goes-on (c .before .before .before .before .before .before) (omega arith) .1))
+    (alike .1 .0) (λ h. alike .1 .1 (omega (arith, ends))))
 
 pub segment-blocks-spec : {M : Type 1} → statement M
-segment-blocks-spec =
-    tie.close
-    (tie.spec
-    block-of-requires
-    code-of-requires
-    owner-of-requires
-    later-code-requires
-    further-requires
-    sub-blocks-alike
-    blocks-alike-requires
-    add-result
-    returns
-    returns-2
-    code-of-requires-2
-    returns-3
-    further-requires-2
-    sub-blocks-alike-2
-    blocks-alike-requires-2
-    add-result-2
-    returns-4)
+segment-blocks-spec = tie.close (tie.spec block-of-requires later-code-requires further-requires alike-to-even-requires returns further-requires-2 sub-result sub-blocks-alike blocks-alike-requires add-result returns-2)

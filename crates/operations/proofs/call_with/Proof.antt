@@ -1,4 +1,5 @@
 -- `operations::call_with` meets its contract. Assumes nothing.
+use mathlib.Core.Path.{refl, sym, _∙_}
 use native.Mathlib.Omega.{arith}
 use lib.Seq.{sets}
 use Rattle.rules.specs.declared.Frame.the-variants.{Local, Cross}
@@ -95,18 +96,18 @@ returns-2 c =
     (c .before .called-domain .ensures) (c .above2 .ensures)
     (pushed (x .state) (x .ram .now) (room-of (c .before .before .before .before .before .before .before .before .before .before .before .before .before .before .before)) (Cross (x .site) (x .state .bound) (x .state .domain)) _ (cross-fits (x .state) (x .ram .now) (x .target) (x .site) (done (c .before .before .before .before .before .before .before .before .before .before .before .before .before .before .before)) (c .before .before .before .before .before .before .before .if1 .left)) (c .before .before .before .before .push2 .ensures))
 
-enum-told-2 : tie.Need-enum-told-2
-enum-told-2 c = search needs
+enum-known-answer : tie.Need-enum-known-answer
+enum-known-answer c = search needs
 
 same-length-3 : tie.Need-same-length-3
 same-length-3 c = search needs
 
 returns-3 : tie.Need-returns-3
 returns-3 c =
-    let x = c .before .before .before .before .before .args in
+    let x = c .before .before .before .before .before .before .args in
     gives-refused _ (callAnswer (x .state) (x .ram .now) (tableOf (x .word)) (x .target) (x .site) (x .pointer)) (x .state) (called (x .state) (x .target) (x .site) (x .pointer)) (x .ram .now)
     (sets (x .ram .now) (x .state .safepointer .0) (frameBytes (frameOf (x .state) (x .target) (x .site))))
-    (c .before .before .answer .ensures) _ (c .enum-told2 .given .1)
+    (sym (c .before .answer2 .given .1) ∙ c .before .before .before .answer .ensures) _ refl
 
 pub call-with-spec : {M : Type 1} → statement M
 call-with-spec =
@@ -132,6 +133,6 @@ call-with-spec =
     above-requires-2
     same-length-2
     returns-2
-    enum-told-2
+    enum-known-answer
     same-length-3
     returns-3)

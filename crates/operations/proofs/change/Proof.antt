@@ -29,7 +29,7 @@ returns c = gives-refused _ _ _ _ _ _ (change-above _ _ _ (found (c .before)) _ 
 segment-blocks-requires : tie.Need-segment-blocks-requires
 segment-blocks-requires c κs =
     let own = found (c .before .before .before) in
-    (own .sized, (config-good _ (own .good), own-inside _ _ _ own))
+    (own .sized, (config-good _ (own .good), (own-inside _ _ _ own .0, (own-inside _ _ _ own .1, own .owned))))
 
 start-code-requires : tie.Need-start-code-requires
 start-code-requires c κs = search needs

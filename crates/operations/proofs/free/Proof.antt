@@ -2,7 +2,6 @@
 use mathlib.Core.Path.{refl, sym, ap, _∙_}
 use Rattle.rules.specs.declared.Answer.the-variants.{Done}
 use Rattle.laws.proofs.Answers.{gives-refused}
-use Rattle.laws.proofs.Codes.{freeCode-lt}
 use Rattle.laws.proofs.Segments.{segment-some}
 use Rattle.operations.specs.Places.{OwnSegment}
 use Rattle.operations.proofs.Acts.{config-good, gives-as, own-inside, own-from, own-codes, free-done}
@@ -22,16 +21,12 @@ found c = rw (c .enum-told .given .1) at (c .before .before .segment-at .ensures
 segment-blocks-requires : tie.Need-segment-blocks-requires
 segment-blocks-requires c κs =
     let own = found (c .before .before) in
-    (own .sized, (config-good _ (own .good), own-inside _ _ _ own))
+    (own .sized, (config-good _ (own .good), (own-inside _ _ _ own .0, (own-inside _ _ _ own .1, own .owned))))
 
-free-code-requires : tie.Need-free-code-requires
-free-code-requires c κs = search needs
-
-set-run-requires : tie.Need-set-run-requires
-set-run-requires c κs =
-    let own = found (c .before .before .before .before .before) in
-    rw (c .before .before .segment-blocks .ensures, c .before .free-code .ensures)
-    (own .sized, (own-from _ _ _ own, (segment-some _ _ _, (own-codes _ _ _ own, (freeCode-lt, freeCode-lt)))))
+set-free-requires : tie.Need-set-free-requires
+set-free-requires c κs =
+    let own = found (c .before .before .before .before) in
+    rw (c .before .segment-blocks .ensures) (own .sized, (own-from _ _ _ own, (segment-some _ _ _, own-codes _ _ _ own)))
 
 enum-told-2 : tie.Need-enum-told-2
 enum-told-2 c = search needs
@@ -41,8 +36,8 @@ same-length c = search needs
 
 returns : tie.Need-returns
 returns c =
-    gives-as _ _ _ _ (free-done _ _ _ (found (c .before .before .before .before .before .before .before .before)))
-    (ap Done (c .before .before .before .before .before .segment-blocks .ensures), refl, rw (c .before .before .before .before .before .segment-blocks .ensures, c .before .before .before .before .free-code .ensures) at (c .before .before .set-run .ensures))
+    gives-as _ _ _ _ (free-done _ _ _ (found (c .before .before .before .before .before .before .before)))
+    (ap Done (c .before .before .before .before .segment-blocks .ensures), refl, rw (c .before .before .before .before .segment-blocks .ensures) at (c .before .before .set-free .ensures))
 
 same-length-2 : tie.Need-same-length-2
 same-length-2 c = search needs
@@ -59,8 +54,7 @@ free-spec =
     segment-at-requires
     enum-told
     segment-blocks-requires
-    free-code-requires
-    set-run-requires
+    set-free-requires
     enum-told-2
     same-length
     returns

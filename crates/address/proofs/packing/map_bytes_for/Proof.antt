@@ -1,22 +1,15 @@
 -- `address::packing::map_bytes_for` meets its contract. Assumes nothing.
-use native.Mathlib.Omega.{arith}
-use Rattle.rules.specs.Memory.{mapBytesFor, dividedUp, perByte}
+use Rattle.rules.specs.Memory.{mapBytesFor, perByte}
 use borrow.Author.Needs.{needs}
 use Rattle.address.proofs.packing.map_bytes_for.Statement.{statement}
 use Rattle.address.proofs.packing.map_bytes_for.Tie as tie
 
-sub-result : tie.Need-sub-result
-sub-result c = search needs
-
-add-result : tie.Need-add-result
-add-result c = search needs
-
-add-result-2 : tie.Need-add-result-2
-add-result-2 c = search needs
+divided-up-requires : tie.Need-divided-up-requires
+divided-up-requires c κs = search needs
 
 returns : tie.Need-returns
-unfolding mapBytesFor dividedUp perByte
-returns c = omega arith
+unfolding mapBytesFor perByte
+returns c = c .divided-up .ensures
 
 pub map-bytes-for-spec : {M : Type 1} → statement M
-map-bytes-for-spec = tie.close (tie.spec sub-result add-result add-result-2 returns)
+map-bytes-for-spec = tie.close (tie.spec divided-up-requires returns)

@@ -10,7 +10,7 @@ block-of-requires c κs = omega (arith, bot≤heap (c .before .args .config) (c 
 segment-blocks-requires : tie.Need-segment-blocks-requires
 segment-blocks-requires c κs =
     let pre = c .before .before .pre in
-    (pre .0, (pre .1 .0, rw (c .block-of .ensures) (block<safe _ (pre .1 .0) _ (pre .1 .1 .0) (pre .1 .1 .1))))
+    rw (c .block-of .ensures) (pre .0, (pre .1 .0, (block<safe _ (pre .1 .0) _ (pre .1 .1 .0) (pre .1 .1 .1 .0), pre .1 .1 .1 .1)))
 
 returns : tie.Need-returns
 returns c = rw (c .before .block-of .ensures) at (c .segment-blocks .ensures)

@@ -41,7 +41,7 @@ returns-3 c =
 code-at-requires : tie.Need-code-at-requires
 code-at-requires c κs =
     let good = config-good _ (c .before .before .before .before .before .before .before .before .before .before .pre .1) in
-    (c .before .before .before .before .before .before .before .before .before .before .pre .0, (omega (arith, bot≤heap _ good, c .before .before .before .before .before .if1 .left), code<ram _ good _ (block<safe _ good _ (c .before .before .before .before .before .if1 .left) (c .before .before .if2 .left))))
+    (c .before .before .before .before .before .before .before .before .before .before .pre .0, (omega (arith, bot≤heap _ good, c .before .before .before .before .before .if1 .left), code<ram _ good _ (omega (arith, block<safe _ good _ (c .before .before .before .before .before .if1 .left) (c .before .before .if2 .left)))))
 
 starts-segment-requires : tie.Need-starts-segment-requires
 starts-segment-requires c κs = search needs

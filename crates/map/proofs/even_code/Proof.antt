@@ -1,0 +1,22 @@
+-- `map::even_code` meets its contract. Assumes nothing.
+use Rattle.rules.specs.Memory.{mapDigit, perByte}
+use Rattle.map.proofs.Halves.{low-half}
+use borrow.Author.Needs.{needs}
+use Rattle.map.proofs.even_code.Statement.{statement}
+use Rattle.map.proofs.even_code.Tie as tie
+
+map-byte-requires : tie.Need-map-byte-requires
+map-byte-requires c κs = search needs
+
+cast-result : tie.Need-cast-result
+cast-result c = search needs
+
+shared-slice-read-result : tie.Need-shared-slice-read-result
+shared-slice-read-result c = search needs
+
+returns : tie.Need-returns
+unfolding mapDigit perByte
+returns c = low-half _ _ _ _ (c .before .before .map-byte .ensures) (c .before .before .before .before .pre .1 .1)
+
+pub even-code-spec : {M : Type 1} → statement M
+even-code-spec = tie.close (tie.spec map-byte-requires cast-result shared-slice-read-result returns)

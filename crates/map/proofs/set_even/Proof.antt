@@ -1,0 +1,40 @@
+-- `map::set_even` meets its contract. Assumes nothing.
+use native.Mathlib.Omega.{arith}
+use Rattle.rules.specs.Memory.{radix, mapDigit, perByte}
+use Rattle.map.proofs.Halves.{set-low}
+use borrow.Author.Needs.{needs}
+use Rattle.map.proofs.set_even.Statement.{statement}
+use Rattle.map.proofs.set_even.Tie as tie
+
+map-byte-requires : tie.Need-map-byte-requires
+map-byte-requires c κs = search needs
+
+cast-byte : tie.Need-cast-byte
+cast-byte c = search needs
+
+slice-read-byte : tie.Need-slice-read-byte
+slice-read-byte c = search needs
+
+mul-ram : tie.Need-mul-ram
+unfolding radix
+mul-ram c = omega (arith, c .slice-known2 .given (c .before .before .map-byte .result .0))
+
+add-ram : tie.Need-add-ram
+unfolding radix
+add-ram c = omega (arith, c .slice-known2 .given (c .before .before .map-byte .result .0))
+
+cast-ram : tie.Need-cast-ram
+cast-ram c = search needs
+
+slice-write-ram : tie.Need-slice-write-ram
+slice-write-ram c = search needs
+
+same-length : tie.Need-same-length
+same-length c = search needs
+
+returns : tie.Need-returns
+unfolding mapDigit perByte
+returns c = set-low _ _ _ _ (c .before .before .before .map-byte .ensures) _ (c .before .before .before .before .before .pre .1 .1 .0)
+
+pub set-even-spec : {M : Type 1} → statement M
+set-even-spec = tie.close (tie.spec map-byte-requires cast-byte slice-read-byte mul-ram add-ram cast-ram slice-write-ram same-length returns)
