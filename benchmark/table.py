@@ -46,14 +46,22 @@ def ratio(ours, theirs):
     return "%.2f" % (ours / theirs) if theirs > 0 else "-"
 
 
+def mean_times(folder):
+    """For each case the times of ours, the C and the loop, over the programs that were timed; nothing if none was."""
+    runs = [[[float(n) for n in line.split()] for line in read(folder, name)] for name in sorted(os.listdir(folder)) if name.startswith("time.")]
+    return [[sum(numbers) / len(runs) for numbers in zip(*case)] for case in zip(*runs)]
+
+
+def most(above):
+    return "%d with more instructions than the C%s." % (len(above), ", the most %.2f times as many" % max(above) if above else "")
+
+
 def table(folder, about):
     cases = [line.split("\t") for line in read(folder, "cases")]
     ours, theirs, loop = (per_call(folder, s) for s in ("library", "plain", "nothing"))
     if not len(cases) == len(ours) == len(theirs) == len(loop):
         sys.exit("table.py: %d cases, but %d, %d and %d counts" % (len(cases), len(ours), len(theirs), len(loop)))
-    times = None
-    if os.path.exists(os.path.join(folder, "time")):
-        times = [[float(n) for n in line.split()] for line in read(folder, "time")]
+    times = mean_times(folder)
     print("C compiler: %s. Instructions%s of one call, without the loop around it." % (about, " and nanoseconds" if times else ""))
     print()
     print("| function | case | answer | ours | C | ratio |" + (" ours, ns | C, ns | ratio |" if times else ""))
@@ -69,7 +77,10 @@ def table(folder, about):
             line += " %.1f | %.1f | %s |" % (x, y, ratio(x, y))
         print(line)
     print()
-    print("%d cases; %d with more instructions than the C, the most %.2f times as many." % (len(cases), len(above), max(above, default=0)))
+    print("%d cases; %s" % (len(cases), most(above)))
+    if os.path.exists(os.path.join(folder, "alike.10")):
+        alike = per_call(folder, "alike")
+        print("The same C compiled by the kit's clang, which compiles ours: %s" % most([(a - l) / (b - l) for a, b, l in zip(ours, alike, loop) if a > b]))
     # Refused with 4 right behind the check of the state; done behind the check of the block too.
     done, refused = (cases.index(case) for case in (["store", "own block", "0"], ["store", "address 4096", "4"]))
     print()

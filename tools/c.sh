@@ -5,6 +5,10 @@
 # is checked is checked there too, but a time measured says nothing.
 
 # shellcheck shell=bash
+c_kit=$(dirname "$(dirname "$(rt doc)")")/on/$(uname -m)/toolchain
+c_words=(--target=x86_64-linux-gnu -nostdinc -isystem "$(gcc -print-file-name=include)" -isystem /usr/include -isystem "/usr/include/$(gcc -dumpmachine)")
+# the compiler that compiles the library
+c_kit_compile() { "$c_kit/bin/clang" "${c_words[@]}" "$@"; }
 if [ "$(uname -m)" = x86_64 ]; then
   c_native=yes
   c_about="gcc $(gcc -dumpfullversion), on this machine"
@@ -14,10 +18,8 @@ if [ "$(uname -m)" = x86_64 ]; then
   c_run() { "$@"; }
 else
   c_native=no
-  c_kit=$(dirname "$(dirname "$(rt doc)")")/on/$(uname -m)/toolchain
   c_about="clang $("$c_kit/bin/clang" -dumpversion) for x86-64, emulated"
-  c_words=(--target=x86_64-linux-gnu -nostdinc -isystem "$(gcc -print-file-name=include)" -isystem /usr/include -isystem "/usr/include/$(gcc -dumpmachine)")
-  c_compile() { "$c_kit/bin/clang" "${c_words[@]}" "$@"; }
+  c_compile() { c_kit_compile "$@"; }
   cxx_compile() { "$c_kit/bin/clang" "${c_words[@]}" -x c++ -fno-exceptions "$@"; }
   # at fixed addresses, so that ./bench can find a function in the emulator's log
   c_link() {
