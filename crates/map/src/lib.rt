@@ -176,7 +176,7 @@ fn fill_from_even(bot: RamByte, ram: &mut [u8], k: Block, n: u16, code: u8)
     set_even(bot, ram, further(k, n - 1), code);
 }
 
-// A block on the way to an even one: an odd one alone.
+// The blocks from k on before an even one: an odd one alone.
 fn fill_to_even(bot: RamByte, ram: &mut [u8], k: Block, code: u8)
     requires { ⌜ length (now ram) ≡ ramBytes ⌝ }
     requires { ⌜ mapByte bot (k .0) < ramBytes ⌝ }
@@ -258,7 +258,7 @@ fn blocks_alike(bot: RamByte, ram: &[u8], k: Block, n: u16, code: u8) -> u16
     alike + 1
 }
 
-// Whether a block on the way to an even one has the code: an odd one must, and stand before end.
+// Whether the blocks from k on before an even one have the code: an odd one must, and stand before end.
 fn alike_to_even(bot: RamByte, ram: &[u8], k: Block, end: u16, code: u8) -> bool
     requires { ⌜ length (now ram) ≡ ramBytes ⌝ }
     requires { ⌜ mapByte bot (k .0) < ramBytes ⌝ }
@@ -333,8 +333,8 @@ fn free_to_even(bot: RamByte, ram: &[u8], k: Block) -> u16
     0
 }
 
-// The lowest run of n free heap blocks, from an even block on a byte at a look: k is the next block to be looked at, at its byte. Behind a
-// block that is not free the search starts anew.
+// The lowest run of n free heap blocks, two at a look from an even one on: k is the next to be looked at, and `at` its byte. Behind one that
+// is not free the search starts anew.
 fn lowest_run(config: Config, ram: &[u8], n: u16) -> Found
     requires { ⌜ length (now ram) ≡ ramBytes ⌝ }
     requires { ⌜ goodConfig config ≡ true ⌝ }
