@@ -47,7 +47,7 @@ def ratio(ours, theirs):
 
 
 def mean_times(folder):
-    """For each case the times of ours, the C and the loop, over the programs that were timed; nothing if none was."""
+    """For each case the mean times of ours, the C and the loop over the programs that were timed; nothing if none was."""
     runs = [[[float(n) for n in line.split()] for line in read(folder, name)] for name in sorted(os.listdir(folder)) if name.startswith("time.")]
     return [[sum(numbers) / len(runs) for numbers in zip(*case)] for case in zip(*runs)]
 
@@ -80,6 +80,8 @@ def table(folder, about):
     print("%d cases; %s" % (len(cases), most(above)))
     if os.path.exists(os.path.join(folder, "alike.10")):
         alike = per_call(folder, "alike")
+        if len(alike) != len(cases):
+            sys.exit("table.py: %d cases, but %d counts of the C by clang" % (len(cases), len(alike)))
         print("The same C compiled by the kit's clang, which compiles ours: %s" % most([(a - l) / (b - l) for a, b, l in zip(ours, alike, loop) if a > b]))
     # Refused with 4 right behind the check of the state; done behind the check of the block too.
     done, refused = (cases.index(case) for case in (["store", "own block", "0"], ["store", "address 4096", "4"]))

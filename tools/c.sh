@@ -2,7 +2,7 @@
 #
 # The archive that `rt staticlib` writes is for x86-64. There gcc compiles and the program runs by itself. On another processor the kit lends the
 # compiler, linker, C library and emulator that it builds and runs its own programs with, and gcc's and this machine's C headers are used: all that
-# is checked is checked there too, but a time measured says nothing.
+# is checked is checked there too, but a time measured says nothing. ./bench has the kit's compiler compile the C on x86-64, too.
 
 # shellcheck shell=bash
 c_kit=$(dirname "$(dirname "$(rt doc)")")/on/$(uname -m)/toolchain
@@ -20,7 +20,7 @@ else
   c_native=no
   c_about="clang $("$c_kit/bin/clang" -dumpversion) for x86-64, emulated"
   c_compile() { c_kit_compile "$@"; }
-  cxx_compile() { "$c_kit/bin/clang" "${c_words[@]}" -x c++ -fno-exceptions "$@"; }
+  cxx_compile() { c_kit_compile -x c++ -fno-exceptions "$@"; }
   # at fixed addresses, so that ./bench can find a function in the emulator's log
   c_link() {
     "$c_kit/bin/ld.lld" -no-pie -dynamic-linker "$c_kit/lib/ld-linux-x86-64.so.2" -L "$c_kit/lib" "$c_kit/lib/Scrt1.o" "$c_kit/lib/crti.o" \

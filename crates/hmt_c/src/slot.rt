@@ -128,7 +128,7 @@ fn rising(slot: &[u8]) -> bool
     last <= word_at(slot, 8)
 }
 
-// Whether the configuration in the slot is good: only code in another order is unpacked, for the test of all pairs.
+// Whether the configuration in the slot is good: the test of all pairs is left to code in another order.
 pub fn good_config(slot: &[u8]) -> bool
     requires { ⌜ length (now slot) ≡ slotBytes ⌝ }
     ensures { λ r. ⌜ r ≡ goodConfig (configIn (now (slot .entry))) ⌝ }
@@ -142,7 +142,7 @@ pub fn good_config(slot: &[u8]) -> bool
     good::good_ranges(config_in(slot))
 }
 
-// Whether the state in the slot is good and its code as it usually lies.
+// Whether the state is good and its code as it usually lies; apart from good_state, so that the usual call does not pay for what the rest needs.
 pub fn usual(slot: &[u8]) -> bool
     requires { ⌜ length (now slot) ≡ slotBytes ⌝ }
     ensures { λ r. ⌜ (r ≡ true → goodState (stateIn (now (slot .entry))) ≡ true) ⌝ }

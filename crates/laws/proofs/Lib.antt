@@ -5,7 +5,6 @@ pub mod Digits
 pub mod AllBelow
 pub mod Map
 pub mod Codes
-pub mod View
 pub mod Blocks
 pub mod Good
 pub mod Frames

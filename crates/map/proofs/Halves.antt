@@ -39,8 +39,7 @@ set-both bot ram k at low high place even inside byte small =
     let one : (k + 1) % 2 ≡ 1 = omega arith in
     rw (same, one, even, ← place, getD-set-same ram at (getD ram at 0 / 16 * 16 + low) 0 inside, set-set) (ap (set ram at) (omega arith))
 
--- a byte whose codes are both v, and one of which only the first is
-module _ (bot : RamByte) (ram : List ℕ) (k at v : ℕ) (place : at ≡ mapByte bot k) (even : k % 2 ≡ 0) where
+module _ (bot : RamByte) (ram : List ℕ) (k at : ℕ) (place : at ≡ mapByte bot k) (even : k % 2 ≡ 0) where
   behind : at ≡ mapByte bot (k + 1)
   unfolding mapByte perByte
   behind = omega arith
@@ -48,12 +47,13 @@ module _ (bot : RamByte) (ram : List ℕ) (k at v : ℕ) (place : at ≡ mapByte
   pub next-half : getD ram at 0 < 256 → getD ram at 0 / 16 ≡ codeOf bot ram (k + 1)
   next-half = high-half bot ram (k + 1) at behind (λ q. omega arith)
 
-  pub codes-alike : v < 16 → getD ram at 0 ≡ v * 16 + v → (codeOf bot ram k ≡ v) × (codeOf bot ram (k + 1) ≡ v)
-  codes-alike small e =
+  -- a byte whose codes are both v, and one of which only the first is
+  pub codes-alike : (v : ℕ) → v < 16 → getD ram at 0 ≡ v * 16 + v → (codeOf bot ram k ≡ v) × (codeOf bot ram (k + 1) ≡ v)
+  codes-alike v small e =
       (sym (low-half bot ram k at place even) ∙ omega arith, sym (next-half (omega arith)) ∙ omega arith)
 
-  pub codes-differ : getD ram at 0 < 256 → getD ram at 0 ≢ v * 16 + v → codeOf bot ram k ≡ v → codeOf bot ram (k + 1) ≢ v
-  codes-differ byte n e f =
+  pub codes-differ : (v : ℕ) → getD ram at 0 < 256 → getD ram at 0 ≢ v * 16 + v → codeOf bot ram k ≡ v → codeOf bot ram (k + 1) ≢ v
+  codes-differ v byte n e f =
       n (omega (arith, low-half bot ram k at place even, next-half byte))
 
 -- so the codes of a run of such bytes are all v
@@ -64,8 +64,8 @@ codes-of-bytes bot ram k at n v place even small same j l u =
     let e : bot .0 + j / 2 ≡ at + (j - k) / 2 = omega arith in
     let byte : getD ram (bot .0 + j / 2) 0 ≡ v * 16 + v = same (bot .0 + j / 2) (omega arith) (omega arith) in
     elim (ℕ-discrete (j % 2) 0) [
-      | yes q ↦ codes-alike bot ram j (bot .0 + j / 2) v refl q small byte .0
+      | yes q ↦ codes-alike bot ram j (bot .0 + j / 2) refl q v small byte .0
       | no q ↦
           let one : j - 1 + 1 ≡ j = omega arith in
-          rw one at (codes-alike bot ram (j - 1) (bot .0 + j / 2) v (omega arith) (omega arith) small byte .1)
+          rw one at (codes-alike bot ram (j - 1) (bot .0 + j / 2) (omega arith) (omega arith) v small byte .1)
     ]

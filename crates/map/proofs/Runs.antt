@@ -28,7 +28,7 @@ place-next : (b b′ : RamByte) (k k′ : ℕ) → mapByte b k ≡ mapByte b′ 
 unfolding mapByte mapDigit perByte
 place-next b b′ k k′ e f = (omega arith, omega arith)
 
-pub places-same : (b b′ : RamByte) (ram : List ℕ) (k k′ : ℕ) (vs : List ℕ) → mapByte b k ≡ mapByte b′ k′ → mapDigit k ≡ mapDigit k′
+places-same : (b b′ : RamByte) (ram : List ℕ) (k k′ : ℕ) (vs : List ℕ) → mapByte b k ≡ mapByte b′ k′ → mapDigit k ≡ mapDigit k′
     → setCodes b ram k vs ≡ setCodes b′ ram k′ vs
 unfolding setCodes setCode
 places-same b b′ ram k k′ [] e f = refl
@@ -81,12 +81,13 @@ pub run-first : (bot : RamByte) (ram : List ℕ) (k first : ℕ) (vs : List ℕ)
 unfolding setCodes
 run-first bot ram k first vs = let next : suc k ≡ k + 1 = omega arith in rw (← next)
 
--- ---- counting a segment of n blocks from block k on: those before block from continue it, and so do m more
+-- ---- counting a segment
 
 -- behind block next, which is counted if it is odd, comes an even one
 pub even-fits : (next end : ℕ) → next ≤ end → (next % 2 ≢ 0 → next ≢ end) → next + next % 2 ≤ end
 even-fits next end h odd = elim (ℕ-discrete (next % 2) 0) [ yes e ↦ omega arith | no d ↦ omega (arith, odd d) ]
 
+-- n blocks from block k on: those before block from continue it, and so do m more
 pub segment-count : (c : Config) (ram : List ℕ) (k n from m later : ℕ) → later ≡ laterCode (ownerOf (codeOf (c .bot) ram k))
     → k < from → k + n ≡ from + m → from + m ≤ safeBlock c → ((j : ℕ) → k < j → j < from → codeOf (c .bot) ram j ≡ later)
     → ((j : ℕ) → from ≤ j → j < from + m → codeOf (c .bot) ram j ≡ later) → (from + m < safeBlock c → codeOf (c .bot) ram (from + m) ≢ later)

@@ -58,7 +58,7 @@ module _ (c : Config) (ram : List ℕ) (n : ℕ) where
     pub sought-more : getD ram at 0 ≡ freeCode * radix + freeCode → Sought c ram n start (run + 2) (at + 1)
     unfolding mapByte perByte radix freeCode
     sought-more byte =
-        let both = codes-alike (c .bot) ram (start + run) at 15 (s .place) (s .even) (omega arith) byte in record {
+        let both = codes-alike (c .bot) ram (start + run) at (s .place) (s .even) 15 (omega arith) byte in record {
           even = omega (arith, s .even);
           place = omega (arith, s .place, s .even);
           in-heap = s .in-heap;
@@ -76,7 +76,7 @@ module _ (c : Config) (ram : List ℕ) (n : ℕ) where
     unfolding mapByte perByte radix freeCode
     sought-anew r h byte mixed short few free used =
         let low : getD ram at 0 % 16 ≡ codeOf (c .bot) ram (start + run) = low-half (c .bot) ram (start + run) at (s .place) (s .even) in
-        let high : getD ram at 0 / 16 ≡ codeOf (c .bot) ram (start + run + 1) = next-half (c .bot) ram (start + run) at 15 (s .place) (s .even) byte in
+        let high : getD ram at 0 / 16 ≡ codeOf (c .bot) ram (start + run + 1) = next-half (c .bot) ram (start + run) at (s .place) (s .even) byte in
         let back : start + run + 2 - r + r ≡ start + run + 2 = omega arith in record {
           even = rw back (omega (arith, s .even));
           place = rw back (omega (arith, s .place, s .even));

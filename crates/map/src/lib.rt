@@ -176,7 +176,7 @@ fn fill_from_even(bot: RamByte, ram: &mut [u8], k: Block, n: u16, code: u8)
     set_even(bot, ram, further(k, n - 1), code);
 }
 
-// The blocks from k on before an even one: an odd one alone.
+// The blocks from k on before an even one get the code: an odd one alone.
 fn fill_to_even(bot: RamByte, ram: &mut [u8], k: Block, code: u8)
     requires { ⌜ length (now ram) ≡ ramBytes ⌝ }
     requires { ⌜ mapByte bot (k .0) < ramBytes ⌝ }
@@ -259,16 +259,16 @@ fn blocks_alike(bot: RamByte, ram: &[u8], k: Block, n: u16, code: u8) -> u16
 }
 
 // Whether the blocks from k on before an even one have the code: an odd one must, and stand before end.
-fn alike_to_even(bot: RamByte, ram: &[u8], k: Block, end: u16, code: u8) -> bool
+fn alike_to_even(bot: RamByte, ram: &[u8], k: Block, end: Block, code: u8) -> bool
     requires { ⌜ length (now ram) ≡ ramBytes ⌝ }
     requires { ⌜ mapByte bot (k .0) < ramBytes ⌝ }
-    ensures { λ r. ⌜ (r ≡ true → mapDigit (k .0) ≢ 0 → (k .0 ≢ end) × (codeOf bot (now (ram .entry)) (k .0) ≡ code)) ⌝ }
-    ensures { λ r. ⌜ (r ≡ false → k .0 ≢ end → codeOf bot (now (ram .entry)) (k .0) ≢ code) ⌝ }
+    ensures { λ r. ⌜ (r ≡ true → mapDigit (k .0) ≢ 0 → (k .0 ≢ end .0) × (codeOf bot (now (ram .entry)) (k .0) ≡ code)) ⌝ }
+    ensures { λ r. ⌜ (r ≡ false → k .0 ≢ end .0 → codeOf bot (now (ram .entry)) (k .0) ≢ code) ⌝ }
 {
     if k.0 % PER_BYTE == 0 {
         return true;
     }
-    if k.0 == end {
+    if k.0 == end.0 {
         return false;
     }
     odd_code(bot, ram, k) == code
@@ -282,14 +282,14 @@ fn segment_blocks(config: Config, ram: &[u8], k: Block, domain: u8) -> u16
     requires { ⌜ ownerOf (codeOf (config .bot) (now ram) (k .0)) ≡ domain ⌝ }
     ensures { λ r. ⌜ r ≡ segmentBlocks config (now (ram .entry)) (k .0) ⌝ }
 {
-    let end = block_of(config.bot, config.safe).0;
+    let end = block_of(config.bot, config.safe);
     let later = later_code(domain);
     let next = further(k, 1);
     if !alike_to_even(config.bot, ram, next, end, later) {
         return 1;
     }
     let even = further(next, next.0 % PER_BYTE);
-    even.0 - k.0 + blocks_alike(config.bot, ram, even, end - even.0, later)
+    even.0 - k.0 + blocks_alike(config.bot, ram, even, end.0 - even.0, later)
 }
 
 // Whether the first block of a byte is the last of n free ones, behind run others.
@@ -304,7 +304,7 @@ fn completes(byte: u8, run: u16, n: u16) -> bool
     byte % RADIX == FREE
 }
 
-// How many free blocks a byte ends with of which not both are free.
+// How many free blocks a byte that is not all free ends with: its second, or none.
 fn free_at_end(byte: u8) -> u16
     ensures { λ r. ⌜ r ≤ 1 ⌝ }
     ensures { λ r. ⌜ (r ≡ 1 → byte / radix ≡ freeCode) ⌝ }
@@ -390,7 +390,7 @@ fn set_first(bot: RamByte, ram: &mut [u8], k: Block, end: Block, code: u8)
     set_code(bot, ram, k, code);
 }
 
-// The map as set-up writes it: every byte the trusted domain's, then its first block, the heap, the first block of the safe stack area and
+// The map as set-up writes it: every byte the trusted domain's, and over that block 0, the heap, the first block of the safe stack area and
 // the unused half of an odd number of blocks.
 pub fn set_up_map(config: Config, ram: &mut [u8])
     requires { ⌜ length (now ram) ≡ ramBytes ⌝ }

@@ -102,6 +102,7 @@ pub fn call_with(
             state.safepointer = address::above(state.safepointer, frames::CROSS_BYTES);
             return Outcome { answer, state };
         }
+        // made anew: to hand on the answer that was matched on costs more
         Answer::Refused(refusal) => return Outcome {
             answer: Answer::Refused(refusal),
             state,

@@ -15,7 +15,7 @@ returns-2 c = (λ e. absurd (false≢true e), λ _ other. absurd (other (c .if2 
 
 odd-code-requires : tie.Need-odd-code-requires
 unfolding mapDigit perByte
-odd-code-requires c κs = (c .before .before .before .before .before .pre .0, (c .before .before .before .before .before .pre .1, c .before .before .if1 .left))
+odd-code-requires c κs = (c .before .before .before .before .before .before .pre .0, (c .before .before .before .before .before .before .pre .1, c .before .before .before .if1 .left))
 
 returns-3 : tie.Need-returns-3
 returns-3 c = (λ t _. (c .before .if2 .left, sym (c .odd-code .ensures) ∙ eqb-true _ _ t), λ t _ e. eqb-false _ _ t (c .odd-code .ensures ∙ e))

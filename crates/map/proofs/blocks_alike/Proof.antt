@@ -65,7 +65,7 @@ returns-3 c =
       (
         λ j l u. elim (ℕ-discrete j (k + bytes * 2)) [ yes e ↦ rw e here | no d ↦ codes j l (omega arith) ],
         λ h. rw next
-            (codes-differ bot ram (k + bytes * 2) (c .before .before .before .before .before .map-byte .result .0 + bytes) code (omega (arith, c .before .before .before .before .before .map-byte .ensures, c .before .before .before .before .before .before .before .before .pre .1)) (omega (arith, c .before .before .before .before .before .before .before .before .pre .1))
+            (codes-differ bot ram (k + bytes * 2) (c .before .before .before .before .before .map-byte .result .0 + bytes) (omega (arith, c .before .before .before .before .before .map-byte .ensures, c .before .before .before .before .before .before .before .before .pre .1)) (omega (arith, c .before .before .before .before .before .before .before .before .pre .1)) code
             (c .before .before .before .before .before .before .before .shared-slice-known .given (c .before .before .before .before .before .map-byte .result .0 + bytes) .fits) (rw (c .before .before .before .before .before .before .both .ensures) at (c .before .before .before .before .bytes-alike .ensures .1 .1 (omega arith))) here),
       ),
     )

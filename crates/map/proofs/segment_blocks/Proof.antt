@@ -1,5 +1,5 @@
 -- `map::segment_blocks` meets its contract. Assumes nothing.
-use Prim.Native.Nat.{_+_, _-_, _%_, _≤_, _<_}
+use Prim.Native.Nat.{_+_, _-_, _%_, _≤_}
 use mathlib.Core.Path.{_≡_, ap}
 use mathlib.Core.Logic.{_≢_}
 use native.Mathlib.Nat.{add-zero}
@@ -63,31 +63,31 @@ sub-result : tie.Need-sub-result
 sub-result c = rw (c .before .before .further2 .ensures, c .before .before .before .before .before .before .further .ensures) (omega arith)
 
 sub-blocks-alike : tie.Need-sub-blocks-alike
-sub-blocks-alike c = rw (c .before .before .before .further2 .ensures, c .before .before .before .before .before .before .before .further .ensures) (fits (c .before .before .before .before .before))
+sub-blocks-alike c = rw (c .before .before .before .before .further2 .ensures, c .before .before .before .before .before .before .before .before .further .ensures) (fits (c .before .before .before .before .before .before))
 
 blocks-alike-requires : tie.Need-blocks-alike-requires
 unfolding mapDigit perByte
 blocks-alike-requires c κs =
-    let pre = c .before .before .before .before .before .before .before .before .before .before .before .pre in
-    let next = c .before .before .before .before .before .before .before .before .before .before .before .args .k .0 + 1 in
-    let end = c .before .before .before .before .before .before .before .before .before .block-of .result .0 in
-    let ends = end-is (c .before .before .before .before .before .before .before .before .before) in
-    let all : next + next % 2 + (end - (next + next % 2)) ≡ end = omega (arith, fits (c .before .before .before .before .before)) in
-    rw (c .before .before .before .further2 .ensures, c .before .before .before .before .before .before .before .further .ensures)
-    (pre .0, (omega arith, (rw all (room _ (pre .1 .0) _ (omega (arith, ends, safeBlock≤blocks (goodConfig-facts _ (pre .1 .0))))), rw (c .before .before .before .before .before .before .before .before .later-code .ensures) (laterCode-lt _ (owner (c .before .before .before .before .before .before .before .before .before .before .before))))))
+    let pre = c .before .before .before .before .before .before .before .before .before .before .before .before .pre in
+    let next = c .before .before .before .before .before .before .before .before .before .before .before .before .args .k .0 + 1 in
+    let end = c .before .before .before .before .before .before .before .before .before .before .block-of .result .0 in
+    let ends = end-is (c .before .before .before .before .before .before .before .before .before .before) in
+    let all : next + next % 2 + (end - (next + next % 2)) ≡ end = omega (arith, fits (c .before .before .before .before .before .before)) in
+    rw (c .before .before .before .before .further2 .ensures, c .before .before .before .before .before .before .before .before .further .ensures)
+    (pre .0, (omega arith, (rw all (room _ (pre .1 .0) _ (omega (arith, ends, safeBlock≤blocks (goodConfig-facts _ (pre .1 .0))))), rw (c .before .before .before .before .before .before .before .before .before .later-code .ensures) (laterCode-lt _ (owner (c .before .before .before .before .before .before .before .before .before .before .before .before))))))
 
 add-result : tie.Need-add-result
-add-result c = rw (c .before .before .before .before .further2 .ensures, c .before .before .before .before .before .before .before .before .further .ensures) (omega (arith, end-is (c .before .before .before .before .before .before .before .before .before .before), safeBlock≤ram _ (c .before .before .before .before .before .before .before .before .before .before .before .before .pre .1 .0), fits (c .before .before .before .before .before .before)))
+add-result c = rw (c .before .before .before .before .before .further2 .ensures, c .before .before .before .before .before .before .before .before .before .further .ensures) (omega (arith, end-is (c .before .before .before .before .before .before .before .before .before .before .before), safeBlock≤ram _ (c .before .before .before .before .before .before .before .before .before .before .before .before .before .pre .1 .0), fits (c .before .before .before .before .before .before .before)))
 
 returns-2 : tie.Need-returns-2
 returns-2 c =
-    let next = c .before .before .before .before .before .before .before .before .before .before .before .before .args .k .0 + 1 in
-    let here = fits (c .before .before .before .before .before .before) in
-    let ends = end-is (c .before .before .before .before .before .before .before .before .before .before) in
-    let alike = rw (c .before .before .before .before .further2 .ensures, c .before .before .before .before .before .before .before .before .further .ensures) at (c .blocks-alike .ensures) in
-    rw (c .before .before .before .before .further2 .ensures, c .before .before .before .before .before .before .before .before .further .ensures)
-    (segment-count _ _ _ _ (next + next % 2) (c .blocks-alike .result) _ (later-is (c .before .before .before .before .before .before .before .before .before)) (omega arith) (omega arith) (omega (arith, alike .0))
-    (λ j l u. let here : j ≡ next = omega arith in rw here (goes-on (c .before .before .before .before .before .before) (omega arith) .1))
+    let next = c .before .before .before .before .before .before .before .before .before .before .before .before .before .args .k .0 + 1 in
+    let here = fits (c .before .before .before .before .before .before .before) in
+    let ends = end-is (c .before .before .before .before .before .before .before .before .before .before .before) in
+    let alike = rw (c .before .before .before .before .before .further2 .ensures, c .before .before .before .before .before .before .before .before .before .further .ensures) at (c .blocks-alike .ensures) in
+    rw (c .before .before .before .before .before .further2 .ensures, c .before .before .before .before .before .before .before .before .before .further .ensures)
+    (segment-count _ _ _ _ (next + next % 2) (c .blocks-alike .result) _ (later-is (c .before .before .before .before .before .before .before .before .before .before)) (omega arith) (omega arith) (omega (arith, alike .0))
+    (λ j l u. let here : j ≡ next = omega arith in rw here (goes-on (c .before .before .before .before .before .before .before) (omega arith) .1))
     (alike .1 .0) (λ h. alike .1 .1 (omega (arith, ends))))
 
 pub segment-blocks-spec : {M : Type 1} → statement M

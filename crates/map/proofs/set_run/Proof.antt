@@ -1,5 +1,4 @@
 -- `map::set_run` meets its contract. Assumes nothing.
-use Prim.Native.Nat.{_-_}
 use mathlib.Core.Path.{_∙_}
 use native.Mathlib.Omega.{arith}
 use Rattle.rules.specs.Memory.{dividedUp, mapByte, mapBytesFor, perByte}
