@@ -1,10 +1,10 @@
 -- Section 5: call.
-use Prim.Native.Nat.{ℕ, _+_, _-_, _/_, _%_}
+use Prim.Native.Nat.{ℕ, _+_, _-_}
 use mathlib.Core.Bool.{Bool, cond, not, _&&_, _||_}
 use mathlib.Core.List.{List, [], _∷_}
 use lib.ListN.{length}
 use lib.Seq.{sets}
-use lib.Dec.{leb, ltb, eqb}
+use lib.Dec.{leb, ltb}
 use Rattle.rules.specs.declared.RamByte.{RamByte}
 use Rattle.rules.specs.declared.FlashWord.{FlashWord}
 use Rattle.rules.specs.declared.State.{State}
@@ -12,18 +12,11 @@ use Rattle.rules.specs.declared.Frame.{Frame}
 use Rattle.rules.specs.declared.Frame.the-variants.{Local, Cross, Damage}
 use Rattle.rules.specs.declared.Answer.{Answer}
 use Rattle.rules.specs.declared.Answer.the-variants.{Done}
-use Rattle.rules.specs.declared.Refusal.the-variants.{WrongSize, BadState, SiteOutside, TargetOutside, PastTables, BadEntry, PointerOutside, PassesTop}
-use Rattle.rules.specs.Memory.{ramBytes}
+use Rattle.rules.specs.declared.Refusal.the-variants.{SiteOutside, TargetOutside, PastTables, BadEntry, PointerOutside, PassesTop}
 use Rattle.rules.specs.Code.{tableWords, rangeOf, inRange, isLocal, tableWord, calledDomain, entryOf, goodEntry, goodSite}
-use Rattle.rules.specs.State.{goodState, ramByte}
-use Rattle.rules.specs.Answers.{_⇒_∣_, Given, give}
-
--- sixteen bits as two bytes, "low, high"
-abbrev pub low : ℕ → ℕ
-low n = n % 256
-
-abbrev pub high : ℕ → ℕ
-high n = n / 256
+use Rattle.rules.specs.State.{ramByte, running}
+use Rattle.rules.specs.Bytes.{low, high}
+use Rattle.rules.specs.Answers.{_⇒_∣_}
 
 -- the tag of a local frame
 abbrev pub localTag : ℕ
@@ -49,10 +42,8 @@ isCross s t = not (isLocal (s .config) t)
 
 -- "A local call needs its target there too, ignores the stack pointer"; "Value: target of a local call, table entry of a cross-domain
 -- call."
-abbrev pub callAnswer : State → List ℕ → List ℕ → FlashWord → FlashWord → RamByte → Answer
-callAnswer s ram table t site p =
-    not (eqb (length ram) ramBytes) || not (eqb (length table) tableWords) ⇒ WrongSize ∣
-    not (goodState s) ⇒ BadState ∣
+abbrev pub callRows : State → List ℕ → FlashWord → FlashWord → RamByte → Answer
+callRows s table t site p =
     not (goodSite (s .config) (s .domain) site) ⇒ SiteOutside ∣
     isLocal (s .config) t && not (inRange (rangeOf (s .config) (s .domain)) t) ⇒ TargetOutside ∣
     isCross s t && leb tableWords (tableWord (s .config) t) ⇒ PastTables ∣
@@ -64,13 +55,10 @@ callAnswer s ram table t site p =
 -- the state with a frame pushed: "then the called domain is current and the bound is the pointer"
 abbrev pub called : State → FlashWord → FlashWord → RamByte → State
 called s t site p =
-    record {
-      config = s .config;
-      domain = cond (isLocal (s .config) t) (s .domain) (calledDomain (s .config) t);
-      bound = cond (isLocal (s .config) t) (s .bound) p;
-      safepointer = ramByte (s .safepointer .0 + length (frameBytes (frameOf s t site)));
-    }
+    running s
+    (cond (isLocal (s .config) t) (s .domain) (calledDomain (s .config) t))
+    (cond (isLocal (s .config) t) (s .bound) p)
+    (ramByte (s .safepointer .0 + length (frameBytes (frameOf s t site))))
 
-abbrev pub callOf : State → List ℕ → List ℕ → FlashWord → FlashWord → RamByte → Given
-callOf s ram table t site p =
-    give (callAnswer s ram table t site p) s ram (called s t site p) (sets ram (s .safepointer .0) (frameBytes (frameOf s t site)))
+abbrev pub pushed : State → List ℕ → FlashWord → FlashWord → List ℕ
+pushed s ram t site = sets ram (s .safepointer .0) (frameBytes (frameOf s t site))

@@ -1,5 +1,5 @@
 -- Section 5: return.
-use Prim.Native.Nat.{ℕ, _+_, _-_, _*_}
+use Prim.Native.Nat.{ℕ, _-_}
 use mathlib.Core.Bool.{Bool, true, cond, not, _||_}
 use mathlib.Core.List.{List}
 use lib.ListN.{length, getD}
@@ -10,16 +10,13 @@ use Rattle.rules.specs.declared.Frame.{Frame}
 use Rattle.rules.specs.declared.Frame.the-variants.{Local, Cross, Damage}
 use Rattle.rules.specs.declared.Answer.{Answer}
 use Rattle.rules.specs.declared.Answer.the-variants.{Done}
-use Rattle.rules.specs.declared.Refusal.the-variants.{WrongSize, BadState, NoFrame, DamagedFrame}
+use Rattle.rules.specs.declared.Refusal.the-variants.{NoFrame, DamagedFrame}
 use Rattle.rules.specs.Memory.{ramBytes, trusted}
 use Rattle.rules.specs.Code.{flashWord, goodSite}
-use Rattle.rules.specs.State.{goodState, ramByte}
-use Rattle.rules.specs.Answers.{_⇒_∣_, Given, give}
+use Rattle.rules.specs.State.{ramByte, running}
+use Rattle.rules.specs.Bytes.{wordAt}
+use Rattle.rules.specs.Answers.{_⇒_∣_}
 use Rattle.rules.specs.Call.{localTag}
-
--- the sixteen bits at i, "low byte first" (section 7)
-abbrev pub wordAt : List ℕ → ℕ → ℕ
-wordAt bytes i = getD bytes i 0 + 256 * getD bytes (i + 1) 0
 
 -- the last frame of the bytes from safe to the safe pointer. "Reads the tag below the safe pointer: 255 a local frame, 0 to 7 a
 -- cross-domain frame, anything else damage. Damage too: fewer bytes above safe than the frame needs"
@@ -46,20 +43,14 @@ siteOf (Local site) = site .0
 siteOf (Cross site bound domain) = site .0
 siteOf Damage = 0
 
-abbrev pub returnAnswer : State → List ℕ → Answer
-returnAnswer s ram =
-    not (eqb (length ram) ramBytes) ⇒ WrongSize ∣
-    not (goodState s) ⇒ BadState ∣
+abbrev pub returnRows : State → Frame → Answer
+returnRows s frame =
     eqb (s .safepointer .0) (s .config .safe .0) ⇒ NoFrame ∣
-    damaged s (topFrame s ram) ⇒ DamagedFrame ∣
-    Done (siteOf (topFrame s ram))
+    damaged s frame ⇒ DamagedFrame ∣
+    Done (siteOf frame)
 
--- the state with a frame popped: "A cross-domain frame restores domain and bound."
+-- the state with a frame popped: "A cross-domain frame restores domain and bound. Popped bytes stay in RAM."
 abbrev pub returned : State → Frame → State
-returned s (Local site) = record { config = s .config; domain = s .domain; bound = s .bound; safepointer = ramByte (s .safepointer .0 - 3) }
-returned s (Cross site bound domain) = record { config = s .config; domain = domain; bound = bound; safepointer = ramByte (s .safepointer .0 - 5) }
+returned s (Local site) = running s (s .domain) (s .bound) (ramByte (s .safepointer .0 - 3))
+returned s (Cross site bound domain) = running s domain bound (ramByte (s .safepointer .0 - 5))
 returned s Damage = s
-
--- "Popped bytes stay in RAM."
-abbrev pub returnOf : State → List ℕ → Given
-returnOf s ram = give (returnAnswer s ram) s ram (returned s (topFrame s ram)) ram

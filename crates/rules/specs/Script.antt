@@ -4,7 +4,6 @@ use mathlib.Core.Bool.{Bool, true, cond, _&&_}
 use mathlib.Core.List.{List, [], _∷_, _++_}
 use lib.ListN.{length, getD, set, replicate}
 use lib.Dec.{leb, ltb, eqb}
-use Rattle.rules.specs.declared.Range.{Range}
 use Rattle.rules.specs.declared.Config.{Config}
 use Rattle.rules.specs.declared.State.{State}
 use Rattle.rules.specs.declared.Operation.{Operation}
@@ -12,15 +11,12 @@ use Rattle.rules.specs.declared.Operation.the-variants.{Store, Call, Ret
 use Rattle.rules.specs.declared.Read.{Read}
 use Rattle.rules.specs.declared.Read.the-variants.{Whole, Cut, End}
 use Rattle.rules.specs.Memory.{ramBytes}
-use Rattle.rules.specs.Code.{domains, tableWords, flashWord}
+use Rattle.rules.specs.Code.{tableWords, flashWord}
 use Rattle.rules.specs.State.{ramByte}
+use Rattle.rules.specs.Bytes.{wordAt, configBytes, configAt}
 use Rattle.rules.specs.Answers.{Given, numberOf, valueOf}
 use Rattle.rules.specs.SetUp.{setUpOf}
-use Rattle.rules.specs.Store.{storeOf}
-use Rattle.rules.specs.Call.{callOf}
-use Rattle.rules.specs.Return.{wordAt, returnOf}
-use Rattle.rules.specs.Malloc.{mallocOf}
-use Rattle.rules.specs.Free.{freeOf, changeOf}
+use Rattle.rules.specs.Operations.{lending, operationOf}
 
 -- ---- the header
 
@@ -28,44 +24,39 @@ use Rattle.rules.specs.Free.{freeOf, changeOf}
 abbrev pub mostBytes : ℕ
 mostBytes = 65536
 
--- "Mark HMT; version 1"
+-- "Mark `HMT`; version 1": how many bytes that is, and which versions there are
+abbrev pub markBytes : ℕ
+markBytes = 4
+
+abbrev pub versionAt : List ℕ → ℕ
+versionAt input = getD input 3 0
+
+abbrev pub knownVersion : ℕ → Bool
+knownVersion v = eqb v 1
+
 abbrev pub markGood : List ℕ → Bool
-markGood input = eqb (getD input 0 0) 72 && eqb (getD input 1 0) 77 && eqb (getD input 2 0) 84 && eqb (getD input 3 0) 1
+markGood input = eqb (getD input 0 0) 72 && eqb (getD input 1 0) 77 && eqb (getD input 2 0) 84 && knownVersion (versionAt input)
 
--- "bot, heap, safe, top, jt; eight pairs start, end": where they stand; the count stands behind them, and the pairs behind that
-abbrev pub rangesPlace : ℕ
-rangesPlace = 14
+-- where the parts of a header stand, by its version: the configuration behind the mark, the count behind that, then the pairs
+abbrev pub configPlace : ℕ → ℕ
+configPlace v = markBytes
 
-abbrev pub countPlace : ℕ
-countPlace = 46
+abbrev pub countPlace : ℕ → ℕ
+countPlace v = configPlace v + configBytes
 
-abbrev pub pairsPlace : ℕ
-pairsPlace = 48
+abbrev pub pairsPlace : ℕ → ℕ
+pairsPlace v = countPlace v + 2
 
--- n pairs start, end from place at on
-unfoldable pub rangesAt : List ℕ → ℕ → ℕ → List Range
-rangesAt input at zero = []
-rangesAt input at (suc n) =
-    record { start = flashWord (wordAt input at); end = flashWord (wordAt input (at + 2)) } ∷ rangesAt input (at + 4) n
-
-abbrev pub configAt : List ℕ → Config
-configAt input =
-    record {
-      bot = ramByte (wordAt input 4);
-      heap = ramByte (wordAt input 6);
-      safe = ramByte (wordAt input 8);
-      top = ramByte (wordAt input 10);
-      jt = flashWord (wordAt input 12);
-      ranges = rangesAt input rangesPlace domains;
-    }
+abbrev pub headerConfig : List ℕ → Config
+headerConfig input = configAt input (configPlace (versionAt input))
 
 -- "a count and that many pairs of table index and entry"
 abbrev pub countAt : List ℕ → ℕ
-countAt input = wordAt input countPlace
+countAt input = wordAt input (countPlace (versionAt input))
 
 -- "then operations to the end"
 abbrev pub operationsPlace : List ℕ → ℕ
-operationsPlace input = pairsPlace + 4 * countAt input
+operationsPlace input = pairsPlace (versionAt input) + 4 * countAt input
 
 -- "(later ones win, others 0)": the table with the n pairs from place at on written to it
 unfoldable pub entriesAt : List ℕ → ℕ → ℕ → List ℕ → List ℕ
@@ -73,20 +64,21 @@ entriesAt input at zero table = table
 entriesAt input at (suc n) table = entriesAt input (at + 4) n (set table (wordAt input at) (wordAt input (at + 2)))
 
 abbrev pub tableAt : List ℕ → List ℕ
-tableAt input = entriesAt input pairsPlace (countAt input) (replicate tableWords 0)
+tableAt input = entriesAt input (pairsPlace (versionAt input)) (countAt input) (replicate tableWords 0)
 
 -- each of the n pairs from place at on has an index of at most 1023
 unfoldable pub indicesGood : List ℕ → ℕ → ℕ → Bool
 indicesGood input at zero = true
 indicesGood input at (suc n) = ltb (wordAt input at) tableWords && indicesGood input (at + 4) n
 
--- "a wrong mark or version, a cut header or an index above 1023 prints bad alone"
+-- "a wrong mark or version, a cut header or an index above 1023 prints `bad` alone"
 abbrev pub headerGood : List ℕ → Bool
 headerGood input =
-    leb pairsPlace (length input)
+    leb markBytes (length input)
     && markGood input
+    && leb (pairsPlace (versionAt input)) (length input)
     && leb (operationsPlace input) (length input)
-    && indicesGood input pairsPlace (countAt input)
+    && indicesGood input (pairsPlace (versionAt input)) (countAt input)
 
 -- ---- an operation
 
@@ -108,15 +100,6 @@ operationNumbered input at number =
 
 unfoldable pub operationAt : List ℕ → ℕ → Read
 operationAt input at = cond (leb (length input) at) End (operationNumbered input at (getD input at 0))
-
--- what an operation gives, with the table lent to a call
-abbrev pub operationOf : State → List ℕ → List ℕ → Operation → Given
-operationOf s ram table (Store a b) = storeOf s ram a b
-operationOf s ram table (Call t site p) = callOf s ram table t site p
-operationOf s ram table Return = returnOf s ram
-operationOf s ram table (Malloc size) = mallocOf s ram size
-operationOf s ram table (Free a) = freeOf s ram a
-operationOf s ram table (Change a d) = changeOf s ram a d
 
 -- ---- the text
 
@@ -177,12 +160,12 @@ unfoldable pub linesFrom : ℕ → List ℕ → List ℕ → State → List ℕ 
 linesFrom zero input table s ram at count = []
 linesFrom (suc left) input table s ram at count =
     onRead (operationAt input at)
-    (λ op next. let g = operationOf s ram table op in lineOf count g ++ linesFrom left input table (g .state) (g .ram) next (count + 1))
+    (λ op next. let g = operationOf s ram (lending table) op in lineOf count g ++ linesFrom left input table (g .state) (g .ram) next (count + 1))
 
 -- "RAM starts as zeros."; "After a refused set-up it stops."
 unfoldable pub runText : List ℕ → List ℕ
 runText input =
-    let g = setUpOf (configAt input) (replicate ramBytes 0) in
+    let g = setUpOf (headerConfig input) (replicate ramBytes 0) in
     let lines = linesFrom (length input - operationsPlace input) input (tableAt input) (g .state) (g .ram) (operationsPlace input) 1 in
     setUpText g ++ cond (eqb (numberOf (g .answer)) 0) lines []
 

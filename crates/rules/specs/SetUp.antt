@@ -8,7 +8,7 @@ use Rattle.rules.specs.declared.Config.{Config}
 use Rattle.rules.specs.declared.Answer.{Answer}
 use Rattle.rules.specs.declared.Answer.the-variants.{Done}
 use Rattle.rules.specs.declared.Refusal.the-variants.{WrongSize, BrokenRule}
-use Rattle.rules.specs.Memory.{ramBytes, blocks, heapBlock, safeBlock, mapBytes, perByte, setCodes, startCode, laterCode, freeCode, trusted}
+use Rattle.rules.specs.Memory.{ramBytes, Order, inUse, Layout, layoutBy, layoutOf, blocks, heapBlock, safeBlock, mapBytes, perByte, setCodes, startCode, laterCode, freeCode, trusted}
 use Rattle.rules.specs.State.{goodConfig, fresh, zeros}
 use Rattle.rules.specs.Answers.{_⇒_∣_, Given, give}
 
@@ -16,12 +16,13 @@ use Rattle.rules.specs.Answers.{_⇒_∣_, Given, give}
 -- and its others 14. If n is odd the unused half is 15."
 unfoldable pub setUpCode : Config → ℕ → ℕ
 setUpCode c k =
-    cond (eqb k 0) (startCode trusted)
-    (cond (ltb k (heapBlock c)) (laterCode trusted)
-    (cond (ltb k (safeBlock c)) freeCode
-    (cond (eqb k (safeBlock c)) (startCode trusted)
-    (cond (ltb k (blocks c)) (laterCode trusted)
-    freeCode))))
+    let m : Layout = layoutOf c in
+    cond (eqb k 0) (startCode m trusted)
+    (cond (ltb k (heapBlock c)) (laterCode m trusted)
+    (cond (ltb k (safeBlock c)) (freeCode m)
+    (cond (eqb k (safeBlock c)) (startCode m trusted)
+    (cond (ltb k (blocks c)) (laterCode m trusted)
+    (freeCode m)))))
 
 -- those of the n places from k on
 unfoldable pub setUpCodes : Config → ℕ → ℕ → List ℕ
@@ -29,8 +30,8 @@ setUpCodes c k zero = []
 setUpCodes c k (suc n) = setUpCode c k ∷ setUpCodes c (suc k) n
 
 -- "Set-up writes the map and nothing else": every place of its m bytes
-unfoldable pub setUpRam : Config → List ℕ → List ℕ
-setUpRam c ram = setCodes (c .bot) ram 0 (setUpCodes c 0 (mapBytes c * perByte))
+unfoldable pub setUpRam : Layout → Config → List ℕ → List ℕ
+setUpRam m c ram = setCodes m ram 0 (setUpCodes c 0 (mapBytes c * perByte m))
 
 abbrev pub setUpAnswer : Config → List ℕ → Answer
 setUpAnswer c ram =
@@ -39,5 +40,9 @@ setUpAnswer c ram =
     Done 0
 
 -- "a refused set-up hands back a state of zeros"
+abbrev pub setUpBy : Order → Config → List ℕ → Given
+setUpBy o c ram = give (setUpAnswer c ram) zeros ram (fresh c) (setUpRam (layoutBy o c) c ram)
+
+-- in the order that is in use
 abbrev pub setUpOf : Config → List ℕ → Given
-setUpOf c ram = give (setUpAnswer c ram) zeros ram (fresh c) (setUpRam c ram)
+setUpOf = setUpBy inUse

@@ -1,93 +1,73 @@
 -- Document 02, Ask 1: the state in a slot of bytes, and what the functions called from C give.
-use Prim.Native.Nat.{ℕ, zero, suc, _+_, _*_}
+use Prim.Native.Nat.{ℕ, _+_, _*_}
 use mathlib.Core.Path.{_≡_}
-use mathlib.Core.Bool.{Bool, cond, not, _||_}
+use mathlib.Core.Bool.{Bool, false, cond, not, _||_}
 use mathlib.Core.List.{List, [], _∷_, _++_}
 use lib.ListN.{length, getD}
 use lib.Dec.{eqb}
 use Rattle.rules.specs.declared.RamByte.{RamByte}
 use Rattle.rules.specs.declared.FlashWord.{FlashWord}
-use Rattle.rules.specs.declared.Range.{Range}
 use Rattle.rules.specs.declared.Config.{Config}
 use Rattle.rules.specs.declared.State.{State}
 use Rattle.rules.specs.declared.Answer.{Answer}
 use Rattle.rules.specs.declared.Answer.the-variants.{Done, Refused}
 use Rattle.rules.specs.declared.Refusal.{Refusal}
 use Rattle.rules.specs.declared.Refusal.the-variants.{WrongSize, BadState}
+use Rattle.rules.specs.declared.Operation.{Operation}
+use Rattle.rules.specs.declared.Operation.the-variants.{Store, Call, Return, Malloc, Free, Change}
 use Rattle.rules.specs.Memory.{ramBytes}
-use Rattle.rules.specs.Code.{domains, tableWords, flashWord}
+use Rattle.rules.specs.Code.{tableWords}
 use Rattle.rules.specs.State.{ramByte}
+use Rattle.rules.specs.Bytes.{wordBytes, wordAt, wordsAt, configBytes, configAt, configAsBytes}
 use Rattle.rules.specs.Answers.{Given, numberOf, valueOf}
 use Rattle.rules.specs.SetUp.{setUpOf}
-use Rattle.rules.specs.Store.{storeOf}
-use Rattle.rules.specs.Call.{low, high, callOf}
-use Rattle.rules.specs.Return.{wordAt, returnOf}
-use Rattle.rules.specs.Malloc.{mallocOf}
-use Rattle.rules.specs.Free.{freeOf, changeOf}
-use Rattle.rules.specs.Script.{rangesAt}
+use Rattle.rules.specs.Operations.{lending, operationOf}
 
 -- ---- the slot
 
--- "The state sits in a 48-byte slot"
+-- "The state sits in a 48-byte slot, numbers low byte first: bot, heap, safe, top, jt; eight pairs start, end; bound; safe pointer; domain
+-- in one byte; one byte 0": where its parts begin
+abbrev pub configPart : ℕ
+configPart = 0
+
+abbrev pub runPart : ℕ
+runPart = configPart + configBytes
+
+abbrev pub zeroPart : ℕ
+zeroPart = runPart + 5
+
 abbrev pub slotBytes : ℕ
-slotBytes = 48
+slotBytes = zeroPart + 1
 
--- "numbers low byte first: bot, heap, safe, top, jt; eight pairs start, end; bound; safe pointer; domain in one byte; one byte 0":
--- where each stands
-abbrev pub rangesIn : ℕ
-rangesIn = 10
+-- in the part that a call or a return changes: bound, safe pointer, domain
+abbrev pub boundPlace : ℕ
+boundPlace = runPart
 
-abbrev pub boundIn : ℕ
-boundIn = 42
+abbrev pub safepointerPlace : ℕ
+safepointerPlace = runPart + 2
 
-abbrev pub safepointerIn : ℕ
-safepointerIn = 44
-
-abbrev pub domainIn : ℕ
-domainIn = 46
-
-abbrev pub zeroIn : ℕ
-zeroIn = 47
+abbrev pub domainPlace : ℕ
+domainPlace = runPart + 4
 
 -- the configuration and the state that a slot holds
 abbrev pub configIn : List ℕ → Config
-configIn slot =
-    record {
-      bot = ramByte (wordAt slot 0);
-      heap = ramByte (wordAt slot 2);
-      safe = ramByte (wordAt slot 4);
-      top = ramByte (wordAt slot 6);
-      jt = flashWord (wordAt slot 8);
-      ranges = rangesAt slot rangesIn domains;
-    }
+configIn slot = configAt slot configPart
 
 abbrev pub stateIn : List ℕ → State
 stateIn slot =
     record {
       config = configIn slot;
-      domain = getD slot domainIn 0;
-      bound = ramByte (wordAt slot boundIn);
-      safepointer = ramByte (wordAt slot safepointerIn);
+      domain = getD slot domainPlace 0;
+      bound = ramByte (wordAt slot boundPlace);
+      safepointer = ramByte (wordAt slot safepointerPlace);
     }
 
 -- the slot that holds a state
-abbrev pub wordBytes : ℕ → List ℕ
-wordBytes n = low n ∷ high n ∷ []
-
-unfoldable pub rangesBytes : List Range → List ℕ
-rangesBytes [] = []
-rangesBytes (r ∷ rs) = wordBytes (r .start .0) ++ wordBytes (r .end .0) ++ rangesBytes rs
-
-abbrev pub boundsBytes : Config → List ℕ
-boundsBytes c = wordBytes (c .bot .0) ++ wordBytes (c .heap .0) ++ wordBytes (c .safe .0) ++ wordBytes (c .top .0) ++ wordBytes (c .jt .0)
+abbrev pub runAsBytes : State → List ℕ
+runAsBytes s = wordBytes (s .bound .0) ++ wordBytes (s .safepointer .0) ++ (s .domain ∷ [])
 
 unfoldable pub slotOf : State → List ℕ
-slotOf s =
-    boundsBytes (s .config)
-    ++ rangesBytes (s .config .ranges)
-    ++ wordBytes (s .bound .0)
-    ++ wordBytes (s .safepointer .0)
-    ++ (s .domain ∷ 0 ∷ [])
+slotOf s = configAsBytes (s .config) ++ runAsBytes s ++ (0 ∷ [])
 
 -- ---- the answer
 
@@ -125,39 +105,47 @@ wrongSize slot ram = not (eqb (length slot) slotBytes) || not (eqb (length ram) 
 abbrev pub cSetUpOf : List ℕ → List ℕ → GivenToC
 cSetUpOf slot ram = cond (wrongSize slot ram) (refusedToC WrongSize slot ram) (toC slot ram (setUpOf (configIn slot) ram))
 
--- "1 also for a slot or table of another length, 3 also for a byte 47 (from 0) that is not 0": an operation after those two tests
-abbrev pub cOperation : Bool → List ℕ → List ℕ → Given → GivenToC
-cOperation wrong slot ram g =
-    cond wrong (refusedToC WrongSize slot ram)
-    (cond (not (eqb (getD slot zeroIn 0) 0)) (refusedToC BadState slot ram)
-    (toC slot ram g))
-
-abbrev pub cStoreOf : List ℕ → List ℕ → RamByte → ℕ → GivenToC
-cStoreOf slot ram a b = cOperation (wrongSize slot ram) slot ram (storeOf (stateIn slot) ram a b)
-
--- "The jump table comes as 2,048 bytes.": n words from place at on
+-- "The jump table comes as 2,048 bytes."
 abbrev pub tableBytes : ℕ
 tableBytes = 2048
-
-unfoldable pub wordsAt : List ℕ → ℕ → ℕ → List ℕ
-wordsAt bytes at zero = []
-wordsAt bytes at (suc n) = wordAt bytes at ∷ wordsAt bytes (at + 2) n
 
 abbrev pub tableIn : List ℕ → List ℕ
 tableIn table = wordsAt table 0 tableWords
 
+abbrev pub wrongTable : List ℕ → Operation → Bool
+wrongTable table (Store a b) = false
+wrongTable table (Call t site p) = not (eqb (length table) tableBytes)
+wrongTable table Return = false
+wrongTable table (Malloc size) = false
+wrongTable table (Free a) = false
+wrongTable table (Change a d) = false
+
+-- "1 also for a slot or table of another length, 3 also for a byte 47 (from 0) that is not 0": an operation after those two tests
+abbrev pub cOperation : Bool → List ℕ → List ℕ → Given → GivenToC
+cOperation wrong slot ram g =
+    cond wrong (refusedToC WrongSize slot ram)
+    (cond (not (eqb (getD slot zeroPart 0) 0)) (refusedToC BadState slot ram)
+    (toC slot ram g))
+
+-- what any of them gives; only a call is lent a table
+abbrev pub cOperationOf : List ℕ → List ℕ → List ℕ → Operation → GivenToC
+cOperationOf slot ram table op =
+    cOperation (wrongTable table op || wrongSize slot ram) slot ram (operationOf (stateIn slot) ram (lending (tableIn table)) op)
+
+abbrev pub cStoreOf : List ℕ → List ℕ → RamByte → ℕ → GivenToC
+cStoreOf slot ram a b = cOperationOf slot ram [] (Store a b)
+
 abbrev pub cCallOf : List ℕ → List ℕ → List ℕ → FlashWord → FlashWord → RamByte → GivenToC
-cCallOf slot ram table t site p =
-    cOperation (wrongSize slot ram || not (eqb (length table) tableBytes)) slot ram (callOf (stateIn slot) ram (tableIn table) t site p)
+cCallOf slot ram table t site p = cOperationOf slot ram table (Call t site p)
 
 abbrev pub cReturnOf : List ℕ → List ℕ → GivenToC
-cReturnOf slot ram = cOperation (wrongSize slot ram) slot ram (returnOf (stateIn slot) ram)
+cReturnOf slot ram = cOperationOf slot ram [] Return
 
 abbrev pub cMallocOf : List ℕ → List ℕ → ℕ → GivenToC
-cMallocOf slot ram size = cOperation (wrongSize slot ram) slot ram (mallocOf (stateIn slot) ram size)
+cMallocOf slot ram size = cOperationOf slot ram [] (Malloc size)
 
 abbrev pub cFreeOf : List ℕ → List ℕ → RamByte → GivenToC
-cFreeOf slot ram a = cOperation (wrongSize slot ram) slot ram (freeOf (stateIn slot) ram a)
+cFreeOf slot ram a = cOperationOf slot ram [] (Free a)
 
 abbrev pub cChangeOf : List ℕ → List ℕ → RamByte → ℕ → GivenToC
-cChangeOf slot ram a d = cOperation (wrongSize slot ram) slot ram (changeOf (stateIn slot) ram a d)
+cChangeOf slot ram a d = cOperationOf slot ram [] (Change a d)

@@ -6,7 +6,7 @@ use lib.Dec.{leb, ltb}
 use Rattle.rules.specs.declared.RamByte.{RamByte}
 use Rattle.rules.specs.declared.Config.{Config}
 use Rattle.rules.specs.declared.State.{State}
-use Rattle.rules.specs.Memory.{ramBytes, isMultiple, mapBytes, trusted}
+use Rattle.rules.specs.Memory.{ramBytes, isMultiple, mapBytes, trusted, isDomain}
 use Rattle.rules.specs.Code.{domains, flashWord, emptyRange, ordered, allApart}
 
 abbrev pub ramByte : ℕ → RamByte
@@ -14,7 +14,7 @@ ramByte n = record { 0 = n }
 
 -- "four RAM addresses, each a multiple of 8"
 abbrev pub multiples : Config → Bool
-multiples c = isMultiple (c .bot) && isMultiple (c .heap) && isMultiple (c .safe) && isMultiple (c .top)
+multiples c = isMultiple c (c .bot) && isMultiple c (c .heap) && isMultiple c (c .safe) && isMultiple c (c .top)
 
 -- "Required: bot < top, bot + m <= heap <= safe <= top <= 4096."
 abbrev pub botBelowTop : Config → Bool
@@ -58,7 +58,7 @@ goodConfig c =
 
 -- "current domain (0 to 7); stack bound (top - 1 to 4095); safe pointer (safe to top)"
 abbrev pub domainGood : State → Bool
-domainGood s = leb (s .domain) trusted
+domainGood s = isDomain (s .config) (s .domain)
 
 abbrev pub boundGood : State → Bool
 boundGood s = leb (s .config .top .0 - 1) (s .bound .0) && ltb (s .bound .0) ramBytes
@@ -73,6 +73,10 @@ goodState s = goodConfig (s .config) && domainGood s && boundGood s && safepoint
 -- "A fresh state has domain 7, bound 4095, safe pointer safe."
 abbrev pub fresh : Config → State
 fresh c = record { config = c; domain = trusted; bound = ramByte (ramBytes - 1); safepointer = c .safe }
+
+-- a state with another domain current, another bound and another safe pointer
+abbrev pub running : State → ℕ → RamByte → RamByte → State
+running s d b p = record { config = s .config; domain = d; bound = b; safepointer = p }
 
 -- section 6: "a state of zeros, which is not good"
 abbrev pub zeros : State
