@@ -8,6 +8,7 @@ use native.Mathlib.Nat.{suc-mul, mul-le-mul-right, div-mul-le-self, div-le-self,
 use native.Mathlib.Omega.{arith}
 use borrow.Author.Tests.{eqb-true}
 use Rattle.rules.specs.declared.RamByte.{RamByte}
+use Rattle.rules.specs.declared.Config.{Config}
 use Rattle.rules.specs.Memory.{blockBytes, startOf, blockOf, isMultiple, blocksFor}
 use Rattle.rules.specs.State.{ramByte}
 use Rattle.laws.proofs.Rounding.{up-holds, up-less, up-least, up-pos}
@@ -38,90 +39,90 @@ module _ {b : ℕ} (pos : 0 < b) (bot : ℕ) where
 
 -- ---- addresses and blocks
 
-pub blockBytes-pos : 0 < blockBytes
+pub blockBytes-pos : (c : Config) → 0 < blockBytes c
 unfolding blockBytes
-blockBytes-pos = omega arith
+blockBytes-pos c = omega arith
 
-pub start-zero : (bot : RamByte) → startOf bot 0 ≡ bot .0
+pub start-zero : (c : Config) → startOf c 0 ≡ c .bot .0
 unfolding startOf
-start-zero bot = omega arith
+start-zero c = omega arith
 
-pub start-suc : (bot : RamByte) (k : ℕ) → startOf bot (suc k) ≡ startOf bot k + blockBytes
+pub start-suc : (c : Config) (k : ℕ) → startOf c (suc k) ≡ startOf c k + blockBytes c
 unfolding startOf
-start-suc bot k = omega (arith, suc-mul k blockBytes)
+start-suc c k = omega (arith, suc-mul k (blockBytes c))
 
-pub start-add : (bot : RamByte) (k n : ℕ) → startOf bot (k + n) ≡ startOf bot k + n * blockBytes
+pub start-add : (c : Config) (k n : ℕ) → startOf c (k + n) ≡ startOf c k + n * blockBytes c
 unfolding startOf
-start-add bot k n = omega arith
+start-add c k n = omega arith
 
-pub start-mono : (bot : RamByte) {k j : ℕ} → k ≤ j → startOf bot k ≤ startOf bot j
+pub start-mono : (c : Config) {k j : ℕ} → k ≤ j → startOf c k ≤ startOf c j
 unfolding startOf
-start-mono bot h = omega (arith, mul-le-mul-right blockBytes h)
+start-mono c h = omega (arith, mul-le-mul-right (blockBytes c) h)
 
-pub start-lt : (bot : RamByte) {k j : ℕ} → k < j → startOf bot k + blockBytes ≤ startOf bot j
-start-lt bot {k} h = omega (arith, start-suc bot k, start-mono bot h)
+pub start-lt : (c : Config) {k j : ℕ} → k < j → startOf c k + blockBytes c ≤ startOf c j
+start-lt c {k} h = omega (arith, start-suc c k, start-mono c h)
 
-pub start-from : (bot : RamByte) (k : ℕ) → bot .0 ≤ startOf bot k
-start-from bot k = omega (arith, start-zero bot, start-mono bot {k = 0} {j = k} (omega arith))
+pub start-from : (c : Config) (k : ℕ) → c .bot .0 ≤ startOf c k
+start-from c k = omega (arith, start-zero c, start-mono c {k = 0} {j = k} (omega arith))
 
 -- an address lies in its block
-pub start-le : (bot a : RamByte) → bot .0 ≤ a .0 → startOf bot (blockOf bot a) ≤ a .0
+pub start-le : (c : Config) (a : RamByte) → c .bot .0 ≤ a .0 → startOf c (blockOf c a) ≤ a .0
 unfolding startOf blockOf
-start-le bot a = lies-from blockBytes-pos (bot .0)
+start-le c a = lies-from (blockBytes-pos c) (c .bot .0)
 
-pub lt-next : (bot a : RamByte) → a .0 < startOf bot (suc (blockOf bot a))
+pub lt-next : (c : Config) (a : RamByte) → a .0 < startOf c (suc (blockOf c a))
 unfolding startOf blockOf
-lt-next bot a = lies-before blockBytes-pos (bot .0) (a .0)
+lt-next c a = lies-before (blockBytes-pos c) (c .bot .0) (a .0)
 
 -- block k starts at or before an address: the address lies in it or behind it
-pub block-from : (bot a : RamByte) (k : ℕ) → startOf bot k ≤ a .0 → k ≤ blockOf bot a
+pub block-from : (c : Config) (a : RamByte) (k : ℕ) → startOf c k ≤ a .0 → k ≤ blockOf c a
 unfolding startOf blockOf
-block-from bot a k = from-start blockBytes-pos (bot .0) k
+block-from c a k = from-start (blockBytes-pos c) (c .bot .0) k
 
 -- it starts behind the address: the address lies in a lower one
-pub block-before : (bot a : RamByte) (k : ℕ) → bot .0 ≤ a .0 → a .0 < startOf bot k → blockOf bot a < k
+pub block-before : (c : Config) (a : RamByte) (k : ℕ) → c .bot .0 ≤ a .0 → a .0 < startOf c k → blockOf c a < k
 unfolding startOf blockOf
-block-before bot a k = before-start blockBytes-pos (bot .0) k
+block-before c a k = before-start (blockBytes-pos c) (c .bot .0) k
 
-pub in-block : (bot a : RamByte) (k : ℕ) → startOf bot k ≤ a .0 → a .0 < startOf bot (suc k) → blockOf bot a ≡ k
-in-block bot a k g h =
-    let below : blockOf bot a < suc k = block-before bot a (suc k) (omega (arith, start-from bot k)) h in
-    omega (arith, block-from bot a k g)
+pub in-block : (c : Config) (a : RamByte) (k : ℕ) → startOf c k ≤ a .0 → a .0 < startOf c (suc k) → blockOf c a ≡ k
+in-block c a k g h =
+    let below : blockOf c a < suc k = block-before c a (suc k) (omega (arith, start-from c k)) h in
+    omega (arith, block-from c a k g)
 
-pub block-start : (bot : RamByte) (k : ℕ) → blockOf bot (ramByte (startOf bot k)) ≡ k
-block-start bot k = in-block bot (ramByte (startOf bot k)) k (omega arith) (omega (arith, start-suc bot k, blockBytes-pos))
+pub block-start : (c : Config) (k : ℕ) → blockOf c (ramByte (startOf c k)) ≡ k
+block-start c k = in-block c (ramByte (startOf c k)) k (omega arith) (omega (arith, start-suc c k, blockBytes-pos c))
 
 -- a multiple is the start of its block
-pub aligned : (bot a : RamByte) → isMultiple bot ≡ true → isMultiple a ≡ true → bot .0 ≤ a .0 → startOf bot (blockOf bot a) ≡ a .0
+pub aligned : (c : Config) (a : RamByte) → isMultiple c (c .bot) ≡ true → isMultiple c a ≡ true → c .bot .0 ≤ a .0 → startOf c (blockOf c a) ≡ a .0
 unfolding startOf blockOf isMultiple
-aligned bot a m n = at-multiple blockBytes-pos (bot .0) (eqb-true (bot .0 % blockBytes) 0 m) (eqb-true (a .0 % blockBytes) 0 n)
+aligned c a m n = at-multiple (blockBytes-pos c) (c .bot .0) (eqb-true (c .bot .0 % blockBytes c) 0 m) (eqb-true (a .0 % blockBytes c) 0 n)
 
 -- the order of blocks is that of addresses
-pub block-le : (bot a e : RamByte) → a .0 ≤ e .0 → blockOf bot a ≤ blockOf bot e
+pub block-le : (c : Config) (a e : RamByte) → a .0 ≤ e .0 → blockOf c a ≤ blockOf c e
 unfolding blockOf
-block-le bot a e = in-order blockBytes-pos (bot .0)
+block-le c a e = in-order (blockBytes-pos c) (c .bot .0)
 
-pub block-lt : (bot a e : RamByte) → isMultiple bot ≡ true → isMultiple e ≡ true → bot .0 ≤ a .0 → a .0 < e .0 → blockOf bot a < blockOf bot e
-block-lt bot a e m n g h = block-before bot a (blockOf bot e) g (omega (arith, aligned bot e m n (omega arith)))
+pub block-lt : (c : Config) (a e : RamByte) → isMultiple c (c .bot) ≡ true → isMultiple c e ≡ true → c .bot .0 ≤ a .0 → a .0 < e .0 → blockOf c a < blockOf c e
+block-lt c a e m n g h = block-before c a (blockOf c e) g (omega (arith, aligned c e m n (omega arith)))
 
-pub block-small : (bot a : RamByte) → blockOf bot a ≤ a .0
+pub block-small : (c : Config) (a : RamByte) → blockOf c a ≤ a .0
 unfolding blockOf
-block-small bot a = omega (arith, div-le-self (a .0 - bot .0) blockBytes)
+block-small c a = omega (arith, div-le-self (a .0 - c .bot .0) (blockBytes c))
 
 -- ---- blocks for a size, and map bytes for a number of blocks
 
-pub blocksFor-holds : (size : ℕ) → size ≤ blocksFor size * blockBytes
+pub blocksFor-holds : (c : Config) (size : ℕ) → size ≤ blocksFor c size * blockBytes c
 unfolding blocksFor
-blocksFor-holds = up-holds blockBytes-pos
+blocksFor-holds c = up-holds (blockBytes-pos c)
 
-pub blocksFor-less : (size : ℕ) → blocksFor size * blockBytes < size + blockBytes
+pub blocksFor-less : (c : Config) (size : ℕ) → blocksFor c size * blockBytes c < size + blockBytes c
 unfolding blocksFor
-blocksFor-less = up-less blockBytes-pos
+blocksFor-less c = up-less (blockBytes-pos c)
 
-pub blocksFor-least : {size : ℕ} (n : ℕ) → size ≤ n * blockBytes → blocksFor size ≤ n
+pub blocksFor-least : (c : Config) {size : ℕ} (n : ℕ) → size ≤ n * blockBytes c → blocksFor c size ≤ n
 unfolding blocksFor
-blocksFor-least = up-least blockBytes-pos
+blocksFor-least c = up-least (blockBytes-pos c)
 
-pub blocksFor-pos : {size : ℕ} → 0 < size → 0 < blocksFor size
+pub blocksFor-pos : (c : Config) {size : ℕ} → 0 < size → 0 < blocksFor c size
 unfolding blocksFor
-blocksFor-pos = up-pos blockBytes-pos
+blocksFor-pos c = up-pos (blockBytes-pos c)

@@ -14,8 +14,9 @@ use Rattle.rules.specs.declared.Frame.the-variants.{Local, Cross, Damage}
 use Rattle.rules.specs.Memory.{trusted}
 use Rattle.rules.specs.Code.{flashWord}
 use Rattle.rules.specs.State.{ramByte}
-use Rattle.rules.specs.Call.{low, high, localTag, frameBytes}
-use Rattle.rules.specs.Return.{wordAt, readFrame}
+use Rattle.rules.specs.Bytes.{low, high, wordAt}
+use Rattle.rules.specs.Call.{localTag, frameBytes}
+use Rattle.rules.specs.Return.{readFrame}
 
 -- ---- a word as two bytes
 

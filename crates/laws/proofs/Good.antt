@@ -13,19 +13,20 @@ use Rattle.rules.specs.declared.FlashWord.{FlashWord}
 use Rattle.rules.specs.declared.Range.{Range}
 use Rattle.rules.specs.declared.Config.{Config}
 use Rattle.rules.specs.declared.State.{State}
-use Rattle.rules.specs.Memory.{ramBytes, blockBytes, startOf, blockOf, isMultiple, blocks, heapBlock, safeBlock, mapBytes, mapByte, perByte, trusted}
+use Rattle.rules.specs.Memory.{ramBytes, layoutOf, blockBytes, startOf, blockOf, isMultiple, blocks, heapBlock, safeBlock, mapBytes, mapByte, perByte, trusted, isDomain}
 use Rattle.rules.specs.Code.{emptyRange, rangeOf, inRange, ordered, allApart, goodSite}
 use Rattle.rules.specs.State.{botBelowTop, mapBelowHeap, heapBelowSafe, safeBelowTop, topInRam, jtInFlash, goodConfig, domainGood, boundGood, safepointerGood, goodState, fresh, zeros}
 use Rattle.laws.proofs.Tests.{byTest, both, each}
 use Rattle.laws.proofs.Blocks.{start-lt, start-mono, start-le, lt-next, aligned, block-le, block-lt, block-from, block-before, block-small}
 use Rattle.laws.proofs.Map.{map-room, mapBytesFor-pos, mapByte-lt}
+use Rattle.laws.proofs.Codes.{domain-le, trusted-domain}
 
 -- sections 2 and 3
 pub record GoodConfig (c : Config) : Type 0 where
-  pub botMultiple : isMultiple (c .bot) ≡ true
-  pub heapMultiple : isMultiple (c .heap) ≡ true
-  pub safeMultiple : isMultiple (c .safe) ≡ true
-  pub topMultiple : isMultiple (c .top) ≡ true
+  pub botMultiple : isMultiple c (c .bot) ≡ true
+  pub heapMultiple : isMultiple c (c .heap) ≡ true
+  pub safeMultiple : isMultiple c (c .safe) ≡ true
+  pub topMultiple : isMultiple c (c .top) ≡ true
   pub bot<top : c .bot .0 < c .top .0
   pub map≤heap : c .bot .0 + mapBytes c ≤ c .heap .0
   pub heap≤safe : c .heap .0 ≤ c .safe .0
@@ -38,7 +39,7 @@ pub record GoodConfig (c : Config) : Type 0 where
 -- section 4
 pub record GoodState (s : State) : Type 0 where
   pub config : GoodConfig (s .config)
-  pub domain≤trusted : s .domain ≤ trusted
+  pub domain : isDomain (s .config) (s .domain) ≡ true
   pub top≤bound : s .config .top .0 - 1 ≤ s .bound .0
   pub bound<ram : s .bound .0 < ramBytes
   pub safe≤safepointer : s .config .safe .0 ≤ s .safepointer .0
@@ -47,12 +48,12 @@ pub record GoodState (s : State) : Type 0 where
 -- the rows of goodConfig below the first
 abbrev rows : Config → List Bool
 rows c =
-    isMultiple (c .heap) ∷ isMultiple (c .safe) ∷ isMultiple (c .top) ∷ botBelowTop c ∷ mapBelowHeap c ∷ heapBelowSafe c ∷ safeBelowTop c ∷ topInRam c ∷ jtInFlash c ∷ ordered (c .jt) (c .ranges) ∷ allApart (c .ranges) ∷ []
+    isMultiple c (c .heap) ∷ isMultiple c (c .safe) ∷ isMultiple c (c .top) ∷ botBelowTop c ∷ mapBelowHeap c ∷ heapBelowSafe c ∷ safeBelowTop c ∷ topInRam c ∷ jtInFlash c ∷ ordered (c .jt) (c .ranges) ∷ allApart (c .ranges) ∷ []
 
 pub goodConfig-facts : (c : Config) → goodConfig c ≡ true → GoodConfig c
 unfolding goodConfig
 goodConfig-facts c h =
-    let (b, (hm, (sm, (tm, (bt, (mh, (hs, (st, (tr, (jt, (o, a))))))))))) = each (isMultiple (c .bot)) (rows c) h in
+    let (b, (hm, (sm, (tm, (bt, (mh, (hs, (st, (tr, (jt, (o, a))))))))))) = each (isMultiple c (c .bot)) (rows c) h in
     record {
       botMultiple = b;
       heapMultiple = hm;
@@ -94,7 +95,7 @@ goodState-facts s h =
     let (from, to) = both (leb (s .config .safe .0) (s .safepointer .0)) (leb (s .safepointer .0) (s .config .top .0)) p in
     record {
       config = goodConfig-facts (s .config) c;
-      domain≤trusted = leb-true (s .domain) trusted d;
+      domain = d;
       top≤bound = leb-true (s .config .top .0 - 1) (s .bound .0) low;
       bound<ram = ltb-true (s .bound .0) ramBytes high;
       safe≤safepointer = leb-true (s .config .safe .0) (s .safepointer .0) from;
@@ -106,12 +107,15 @@ unfolding goodState
 goodState-true s g =
     simp (
       goodConfig-true (s .config) (g .config),
-      le-leb (s .domain) trusted (g .domain≤trusted),
+      g .domain,
       le-leb (s .config .top .0 - 1) (s .bound .0) (g .top≤bound),
       lt-ltb (s .bound .0) ramBytes (g .bound<ram),
       le-leb (s .config .safe .0) (s .safepointer .0) (g .safe≤safepointer),
       le-leb (s .safepointer .0) (s .config .top .0) (g .safepointer≤top),
     )
+
+pub domain≤trusted : {s : State} → GoodState s → s .domain ≤ trusted
+domain≤trusted {s} g = domain-le (s .config) (s .domain) (g .domain)
 
 -- section 6: "a state of zeros, which is not good"
 pub not-good-zeros : goodState zeros ≡ false
@@ -122,7 +126,7 @@ fresh-good c h =
     let g : GoodConfig c = goodConfig-facts c h in
     goodState-true (fresh c) (record {
       config = g;
-      domain≤trusted = omega arith;
+      domain = trusted-domain c;
       top≤bound = omega arith;
       bound<ram = omega arith;
       safe≤safepointer = omega arith;
@@ -134,71 +138,71 @@ fresh-good c h =
 module _ {c : Config} (g : GoodConfig c) where
   pub blocks-pos : 0 < blocks c
   unfolding blocks
-  blocks-pos = omega (arith, block-lt (c .bot) (c .bot) (c .top) (g .botMultiple) (g .topMultiple) (omega arith) (g .bot<top))
+  blocks-pos = omega (arith, block-lt c (c .bot) (c .top) (g .botMultiple) (g .topMultiple) (omega arith) (g .bot<top))
 
   pub bot<heap : c .bot .0 < c .heap .0
   unfolding mapBytes
-  bot<heap = omega (arith, mapBytesFor-pos blocks-pos)
+  bot<heap = omega (arith, mapBytesFor-pos (layoutOf c) blocks-pos)
 
   pub heapBlock-pos : 0 < heapBlock c
   unfolding heapBlock
-  heapBlock-pos = omega (arith, block-lt (c .bot) (c .bot) (c .heap) (g .botMultiple) (g .heapMultiple) (omega arith) bot<heap)
+  heapBlock-pos = omega (arith, block-lt c (c .bot) (c .heap) (g .botMultiple) (g .heapMultiple) (omega arith) bot<heap)
 
   pub heapBlock≤safeBlock : heapBlock c ≤ safeBlock c
   unfolding heapBlock safeBlock
-  heapBlock≤safeBlock = block-le (c .bot) (c .heap) (c .safe) (g .heap≤safe)
+  heapBlock≤safeBlock = block-le c (c .heap) (c .safe) (g .heap≤safe)
 
   pub safeBlock≤blocks : safeBlock c ≤ blocks c
   unfolding safeBlock blocks
-  safeBlock≤blocks = block-le (c .bot) (c .safe) (c .top) (g .safe≤top)
+  safeBlock≤blocks = block-le c (c .safe) (c .top) (g .safe≤top)
 
-  pub heap-start : startOf (c .bot) (heapBlock c) ≡ c .heap .0
+  pub heap-start : startOf c (heapBlock c) ≡ c .heap .0
   unfolding heapBlock
-  heap-start = aligned (c .bot) (c .heap) (g .botMultiple) (g .heapMultiple) (omega (arith, bot<heap))
+  heap-start = aligned c (c .heap) (g .botMultiple) (g .heapMultiple) (omega (arith, bot<heap))
 
-  pub safe-start : startOf (c .bot) (safeBlock c) ≡ c .safe .0
+  pub safe-start : startOf c (safeBlock c) ≡ c .safe .0
   unfolding safeBlock
-  safe-start = aligned (c .bot) (c .safe) (g .botMultiple) (g .safeMultiple) (omega (arith, bot<heap))
+  safe-start = aligned c (c .safe) (g .botMultiple) (g .safeMultiple) (omega (arith, bot<heap))
 
-  pub top-start : startOf (c .bot) (blocks c) ≡ c .top .0
+  pub top-start : startOf c (blocks c) ≡ c .top .0
   unfolding blocks
-  top-start = aligned (c .bot) (c .top) (g .botMultiple) (g .topMultiple) (omega arith)
+  top-start = aligned c (c .top) (g .botMultiple) (g .topMultiple) (omega arith)
 
   -- ---- which part of the protected range an address lies in, by its block
 
-  pub from-heap : (a : RamByte) → c .heap .0 ≤ a .0 → heapBlock c ≤ blockOf (c .bot) a
-  from-heap a l = block-from (c .bot) a (heapBlock c) (omega (arith, heap-start))
+  pub from-heap : (a : RamByte) → c .heap .0 ≤ a .0 → heapBlock c ≤ blockOf c a
+  from-heap a l = block-from c a (heapBlock c) (omega (arith, heap-start))
 
-  pub to-safe : (a : RamByte) → c .bot .0 ≤ a .0 → a .0 < c .safe .0 → blockOf (c .bot) a < safeBlock c
-  to-safe a b u = block-before (c .bot) a (safeBlock c) b (omega (arith, safe-start))
+  pub to-safe : (a : RamByte) → c .bot .0 ≤ a .0 → a .0 < c .safe .0 → blockOf c a < safeBlock c
+  to-safe a b u = block-before c a (safeBlock c) b (omega (arith, safe-start))
 
-  pub to-top : (a : RamByte) → c .bot .0 ≤ a .0 → a .0 < c .top .0 → blockOf (c .bot) a < blocks c
-  to-top a b u = block-before (c .bot) a (blocks c) b (omega (arith, top-start))
+  pub to-top : (a : RamByte) → c .bot .0 ≤ a .0 → a .0 < c .top .0 → blockOf c a < blocks c
+  to-top a b u = block-before c a (blocks c) b (omega (arith, top-start))
 
-  pub in-heap : (a : RamByte) → c .bot .0 ≤ a .0 → heapBlock c ≤ blockOf (c .bot) a → blockOf (c .bot) a < safeBlock c
+  pub in-heap : (a : RamByte) → c .bot .0 ≤ a .0 → heapBlock c ≤ blockOf c a → blockOf c a < safeBlock c
       → (c .heap .0 ≤ a .0) × (a .0 < c .safe .0)
   in-heap a b l u = (
-    omega (arith, heap-start, start-mono (c .bot) l, start-le (c .bot) a b),
-    omega (arith, safe-start, start-mono (c .bot) u, lt-next (c .bot) a),
+    omega (arith, heap-start, start-mono c l, start-le c a b),
+    omega (arith, safe-start, start-mono c u, lt-next c a),
   )
 
-  pub block-fits : {k : ℕ} → k < blocks c → startOf (c .bot) k + blockBytes ≤ c .top .0
-  block-fits h = omega (arith, start-lt (c .bot) h, top-start)
+  pub block-fits : {k : ℕ} → k < blocks c → startOf c k + blockBytes c ≤ c .top .0
+  block-fits h = omega (arith, start-lt c h, top-start)
 
   pub blocks≤ram : blocks c ≤ ramBytes
   unfolding blocks
-  blocks≤ram = omega (arith, block-small (c .bot) (c .top))
+  blocks≤ram = omega (arith, block-small c (c .top))
 
   -- ---- its map lies below the heap
 
-  pub place<heap : {k : ℕ} → k < mapBytes c * perByte → mapByte (c .bot) k < c .heap .0
-  place<heap {k} h = omega (arith, mapByte-lt (c .bot) k (mapBytes c) h)
+  pub place<heap : {k : ℕ} → k < mapBytes c * perByte (layoutOf c) → mapByte (layoutOf c) k < c .heap .0
+  place<heap {k} h = omega (arith, mapByte-lt (layoutOf c) k (mapBytes c) h)
 
-  pub blocks≤places : blocks c ≤ mapBytes c * perByte
+  pub blocks≤places : blocks c ≤ mapBytes c * perByte (layoutOf c)
   unfolding mapBytes
-  blocks≤places = map-room (blocks c)
+  blocks≤places = map-room (layoutOf c) (blocks c)
 
-  pub mapByte<heap : {k : ℕ} → k < blocks c → mapByte (c .bot) k < c .heap .0
+  pub mapByte<heap : {k : ℕ} → k < blocks c → mapByte (layoutOf c) k < c .heap .0
   mapByte<heap h = place<heap (omega (arith, blocks≤places))
 
 -- ---- its code ranges

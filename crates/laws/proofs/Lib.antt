@@ -11,7 +11,9 @@ pub mod Frames
 pub mod Parts
 pub mod Search
 pub mod Segments
+pub mod Bytes
 pub mod Slot
+pub mod Operations
 pub mod ToC
 pub mod Rows
 pub mod SetUp

@@ -2,7 +2,7 @@
 -- Assumes nothing.
 use Prim.Native.Nat.{ℕ}
 use mathlib.Core.Path.{_≡_, refl, sym, _∙_}
-use mathlib.Core.Bool.{Bool, true, false, not}
+use mathlib.Core.Bool.{Bool, true, false, not, _||_, or-true}
 use mathlib.Core.List.{List, [], _∷_, _++_}
 use native.Mathlib.Omega.{arith}
 use lib.ListN.{length, getD}
@@ -12,19 +12,22 @@ use borrow.Author.Tests.{eqb-true, not-false, eq-eqb, ne-eqb}
 use Rattle.rules.specs.declared.Config.{Config}
 use Rattle.rules.specs.declared.State.{State}
 use Rattle.rules.specs.declared.Outcome.{Outcome}
-use Rattle.rules.specs.declared.Frame.{Frame}
-use Rattle.rules.specs.declared.Frame.the-variants.{Local, Cross, Damage}
+use Rattle.rules.specs.declared.Operation.{Operation}
+use Rattle.rules.specs.declared.Operation.the-variants.{Store, Call, Return, Malloc, Free, Change}
 use Rattle.rules.specs.declared.Answer.{Answer}
 use Rattle.rules.specs.declared.Answer.the-variants.{Done, Refused}
 use Rattle.rules.specs.declared.Refusal.the-variants.{WrongSize, BadState}
-use Rattle.rules.specs.Memory.{ramBytes}
-use Rattle.rules.specs.State.{fresh, zeros}
+use Rattle.rules.specs.Memory.{ramBytes, inUse, layoutOf}
+use Rattle.rules.specs.Code.{tableWords}
+use Rattle.rules.specs.State.{goodState, fresh, zeros}
 use Rattle.rules.specs.Answers.{Given, Gives, give}
 use Rattle.rules.specs.SetUp.{setUpAnswer, setUpRam, setUpOf}
-use Rattle.rules.specs.Return.{returned}
-use Rattle.rules.specs.Slot.{slotBytes, boundIn, zeroIn, configIn, stateIn, slotOf, packed, GivesToC, toC, wrongSize, cSetUpOf, cOperation}
+use Rattle.rules.specs.Operations.{lending, wrongLent, seenBy, stateAfter, ramAfter, answerBy, operationOf}
+use Rattle.rules.specs.Slot.{slotBytes, runPart, zeroPart, configIn, stateIn, runAsBytes, slotOf, packed, GivesToC, toC, wrongSize, cSetUpOf, tableIn, wrongTable, cOperation, cOperationOf}
 use Rattle.laws.proofs.Tests.{neither}
-use Rattle.laws.proofs.Slot.{Bytes, runBytes, slotOf-stateIn, slotOf-over, slotOf-changed}
+use Rattle.laws.proofs.Bytes.{Bytes, length-wordsAt}
+use Rattle.laws.proofs.Slot.{slotOf-stateIn, slotOf-over, slotOf-changed}
+use Rattle.laws.proofs.Operations.{config-stays}
 
 -- the slot after an answer: as it was after a refusal, else as it is when done
 abbrev pub after : Answer → List ℕ → List ℕ → List ℕ
@@ -35,33 +38,63 @@ after-same : (a : Answer) (slot : List ℕ) → slot ≡ after a slot slot
 after-same (Done v) slot = refl
 after-same (Refused r) slot = refl
 
--- ---- the two tests before an operation
+-- ---- the tests before an operation
 
 pub right-size : (slot ram : List ℕ) → wrongSize slot ram ≡ false → (length slot ≡ slotBytes) × (length ram ≡ ramBytes)
 right-size slot ram h =
     let (a, b) = neither (not (eqb (length slot) slotBytes)) (not (eqb (length ram) ramBytes)) h in
     (eqb-true (length slot) slotBytes (not-false (eqb (length slot) slotBytes) a), eqb-true (length ram) ramBytes (not-false (eqb (length ram) ramBytes) b))
 
+-- the words of a table of bytes are as many as are wanted
+pub right-table : (table : List ℕ) (op : Operation) → wrongLent (lending (tableIn table)) op ≡ false
+right-table table (Store a b) = refl
+right-table table (Call t site p) = rw (eq-eqb (length (tableIn table)) tableWords (length-wordsAt table 0 tableWords)) refl
+right-table table Return = refl
+right-table table (Malloc size) = refl
+right-table table (Free a) = refl
+right-table table (Change a d) = refl
+
+-- lengths, byte 47 and the state are good
 pub record Ready (slot ram : List ℕ) : Type 0 where
   pub sizes : wrongSize slot ram ≡ false
-  pub zero : getD slot zeroIn 0 ≡ 0
+  pub zero : getD slot zeroPart 0 ≡ 0
+  pub good : goodState (stateIn slot) ≡ true
 
--- the refusal that they give as a number, 0 for none
-pub record Before (slot ram : List ℕ) (n : ℕ) : Type 0 where
+-- what these tests give, for any operation whose table has its length: its refusal as a number, 0 for none
+pub record Judged (slot ram : List ℕ) (n : ℕ) : Type 0 where
   pub none : n ≡ 0 → Ready slot ram
-  pub some : (n ≡ 0 → ⊥) → (g : Given) → GivesToC n slot ram (cOperation (wrongSize slot ram) slot ram g)
+  pub some : (n ≡ 0 → ⊥) → (table : List ℕ) (op : Operation) → wrongTable table op ≡ false → GivesToC n slot ram (cOperationOf slot ram table op)
 
-pub before-size : (slot ram : List ℕ) (n : ℕ) → wrongSize slot ram ≡ true → n ≡ packed (Refused WrongSize) → Before slot ram n
-before-size slot ram n w e = record { none = λ z. absurd (omega arith); some = λ _ g. rw w (e, refl, refl) }
+module _ (slot ram : List ℕ) (n : ℕ) where
+  pub judged-size : wrongSize slot ram ≡ true → n ≡ packed (Refused WrongSize) → Judged slot ram n
+  judged-size w e = record { none = λ z. absurd (omega arith); some = λ _ table op t. rw (t, w) (e, refl, refl) }
 
-pub before-zero : (slot ram : List ℕ) (n : ℕ) → wrongSize slot ram ≡ false → (getD slot zeroIn 0 ≡ 0 → ⊥) → n ≡ packed (Refused BadState) → Before slot ram n
-before-zero slot ram n w z e = record { none = λ z. absurd (omega arith); some = λ _ g. rw (w, ne-eqb (getD slot zeroIn 0) 0 z) (e, refl, refl) }
+  pub judged-zero : wrongSize slot ram ≡ false → (getD slot zeroPart 0 ≡ 0 → ⊥) → n ≡ packed (Refused BadState) → Judged slot ram n
+  judged-zero w z e =
+      record {
+        none = λ z. absurd (omega arith);
+        some = λ _ table op t. rw (t, w, ne-eqb (getD slot zeroPart 0) 0 z) (e, refl, refl);
+      }
 
-pub before-none : (slot ram : List ℕ) → Ready slot ram → Before slot ram 0
-before-none slot ram r = record { none = λ _. r; some = λ n. absurd (n refl) }
+  pub judged-bad : wrongSize slot ram ≡ false → getD slot zeroPart 0 ≡ 0 → goodState (stateIn slot) ≡ false → n ≡ packed (Refused BadState)
+      → Judged slot ram n
+  judged-bad w z b e =
+      record {
+        none = λ z. absurd (omega arith);
+        some = λ _ table op t.
+          rw (t, w, eq-eqb (getD slot zeroPart 0) 0 z, right-table table op, eq-eqb (length ram) ramBytes (right-size slot ram w .1), b) (e, refl, refl);
+      }
 
-pub passed : (wrong : Bool) (slot ram : List ℕ) → wrong ≡ false → getD slot zeroIn 0 ≡ 0 → (g : Given) → cOperation wrong slot ram g ≡ toC slot ram g
-passed wrong slot ram w z g = rw (w, eq-eqb (getD slot zeroIn 0) 0 z)
+pub judged-none : (slot ram : List ℕ) → Ready slot ram → Judged slot ram 0
+judged-none slot ram r = record { none = λ _. r; some = λ n. absurd (n refl) }
+
+-- a table of another length is told first
+pub wrong-table : (slot ram table : List ℕ) (op : Operation) → wrongTable table op ≡ true
+    → GivesToC (packed (Refused WrongSize)) slot ram (cOperationOf slot ram table op)
+wrong-table slot ram table op h = rw h (refl, refl, refl)
+
+passed : (wrong : Bool) (slot ram : List ℕ) → wrong ≡ false → getD slot zeroPart 0 ≡ 0 → (g : Given) → cOperation wrong slot ram g ≡ toC slot ram g
+passed wrong slot ram w z g = rw (w, eq-eqb (getD slot zeroPart 0) 0 z)
 
 -- ---- an operation carried out
 
@@ -75,35 +108,41 @@ to-c (Refused q) s s′ slot ram slot′ ram′ done r n pack (e, f, g) p w h = 
 -- set-up: "Set-up reads only the configuration from the slot."
 pub set-up-to-c : (slot ram slot′ ram′ : List ℕ) (r : Outcome) (n : ℕ) → Bytes slot → wrongSize slot ram ≡ false
     → Gives r ram′ (setUpOf (configIn slot) ram) → n ≡ packed (r .answer)
-    → slot′ ≡ after (r .answer) slot (sets slot boundIn (runBytes (r .state) ++ (0 ∷ [])))
+    → slot′ ≡ after (r .answer) slot (sets slot runPart (runAsBytes (r .state) ++ (0 ∷ [])))
     → GivesToC n slot′ ram′ (cSetUpOf slot ram)
 set-up-to-c slot ram slot′ ram′ r n bytes sizes g p w =
     let c : Config = configIn slot in
     rw sizes
-    (to-c (setUpAnswer c ram) zeros (fresh c) slot ram slot′ ram′ (setUpRam c ram) r n (λ s. sets slot boundIn (runBytes s ++ (0 ∷ []))) g p w
+    (to-c (setUpAnswer c ram) zeros (fresh c) slot ram slot′ ram′ (setUpRam (layoutOf c) c ram) r n
+    (λ s. sets slot runPart (runAsBytes s ++ (0 ∷ []))) g p w
     (slotOf-over slot (right-size slot ram sizes .0) bytes (fresh c) refl))
 
-module _ (slot ram : List ℕ) (bytes : Bytes slot) (ready : Ready slot ram) where
-  -- store, malloc, free and change keep the state, and so the slot
-  pub kept-to-c : (a : Answer) (ram′ done : List ℕ) (r : Outcome) (n : ℕ)
-      → Gives r ram′ (give a (stateIn slot) ram (stateIn slot) done) → n ≡ packed (r .answer)
-      → GivesToC n slot ram′ (cOperation (wrongSize slot ram) slot ram (give a (stateIn slot) ram (stateIn slot) done))
-  kept-to-c a ram′ done r n g p =
-      rw (passed (wrongSize slot ram) slot ram (ready .sizes) (ready .zero) (give a (stateIn slot) ram (stateIn slot) done))
-      (to-c a (stateIn slot) (stateIn slot) slot ram slot ram′ done r n (λ s. slot) g p (after-same (r .answer) slot)
-      (slotOf-stateIn slot (right-size slot ram (ready .sizes) .0) bytes (ready .zero)))
+module _ (slot ram table : List ℕ) (op : Operation) (bytes : Bytes slot) (lent : wrongTable table op ≡ false) (ready : Ready slot ram) where
+  through : cOperationOf slot ram table op ≡ toC slot ram (operationOf (stateIn slot) ram (lending (tableIn table)) op)
+  through =
+      rw lent
+      (passed (wrongSize slot ram) slot ram (ready .sizes) (ready .zero) (operationOf (stateIn slot) ram (lending (tableIn table)) op))
 
-  -- a call and a return keep the configuration
-  pub changed-to-c : (wrong : Bool) (a : Answer) (s′ : State) (slot′ ram′ done : List ℕ) (r : Outcome) (n : ℕ) → wrong ≡ false
-      → Gives r ram′ (give a (stateIn slot) ram s′ done) → n ≡ packed (r .answer)
-      → slot′ ≡ after (r .answer) slot (sets slot boundIn (runBytes (r .state))) → s′ .config ≡ configIn slot
-      → GivesToC n slot′ ram′ (cOperation wrong slot ram (give a (stateIn slot) ram s′ done))
-  changed-to-c wrong a s′ slot′ ram′ done r n sizes g p w same =
-      rw (passed wrong slot ram sizes (ready .zero) (give a (stateIn slot) ram s′ done))
-      (to-c a (stateIn slot) s′ slot ram slot′ ram′ done r n (λ s. sets slot boundIn (runBytes s)) g p w
-      (slotOf-changed slot (right-size slot ram (ready .sizes) .0) bytes (ready .zero) s′ same))
+  -- an operation that keeps the state, and so the slot
+  pub kept-to-c : (ram′ : List ℕ) (r : Outcome) (n : ℕ) → stateAfter (stateIn slot) (seenBy inUse (stateIn slot) ram) op ≡ stateIn slot
+      → Gives r ram′ (operationOf (stateIn slot) ram (lending (tableIn table)) op) → n ≡ packed (r .answer)
+      → GivesToC n slot ram′ (cOperationOf slot ram table op)
+  kept-to-c ram′ r n same g p =
+      rw through
+      (to-c (answerBy inUse (stateIn slot) ram (lending (tableIn table)) op) (stateIn slot)
+      (stateAfter (stateIn slot) (seenBy inUse (stateIn slot) ram) op) slot ram slot ram′ (ramAfter (layoutOf (configIn slot)) (stateIn slot) ram op)
+      r n (λ s. slot) g p (after-same (r .answer) slot)
+      (rw same (slotOf-stateIn slot (right-size slot ram (ready .sizes) .0) bytes (ready .zero))))
 
-pub returned-config : (s : State) (f : Frame) → returned s f .config ≡ s .config
-returned-config s (Local site) = refl
-returned-config s (Cross site bound domain) = refl
-returned-config s Damage = refl
+  -- any operation, since each keeps the configuration
+  pub changed-to-c : (slot′ ram′ : List ℕ) (r : Outcome) (n : ℕ)
+      → Gives r ram′ (operationOf (stateIn slot) ram (lending (tableIn table)) op) → n ≡ packed (r .answer)
+      → slot′ ≡ after (r .answer) slot (sets slot runPart (runAsBytes (r .state)))
+      → GivesToC n slot′ ram′ (cOperationOf slot ram table op)
+  changed-to-c slot′ ram′ r n g p w =
+      rw through
+      (to-c (answerBy inUse (stateIn slot) ram (lending (tableIn table)) op) (stateIn slot)
+      (stateAfter (stateIn slot) (seenBy inUse (stateIn slot) ram) op) slot ram slot′ ram′ (ramAfter (layoutOf (configIn slot)) (stateIn slot) ram op)
+      r n (λ s. sets slot runPart (runAsBytes s)) g p w
+      (slotOf-changed slot (right-size slot ram (ready .sizes) .0) bytes (ready .zero)
+      (stateAfter (stateIn slot) (seenBy inUse (stateIn slot) ram) op) (config-stays (stateIn slot) (seenBy inUse (stateIn slot) ram) op)))

@@ -115,6 +115,13 @@ unfoldable pub setDigit : ℕ → ℕ → ℕ → ℕ → ℕ
 setDigit r zero b v = b / r * r + v
 setDigit r (suc i) b v = setDigit r i (b / r) v * r + b % r
 
+-- digit i of cell a of a list, and the list with it made v
+abbrev pub cellDigit : ℕ → List ℕ → ℕ → ℕ → ℕ
+cellDigit r cells a i = digit r i (getD cells a 0)
+
+abbrev pub setCellDigit : ℕ → List ℕ → ℕ → ℕ → ℕ → List ℕ
+setCellDigit r cells a i v = set cells a (setDigit r i (getD cells a 0) v)
+
 -- the digit of place i of the p places of a byte
 abbrev pub digitBy : Order → ℕ → ℕ → ℕ
 digitBy lowFirst p i = i
@@ -128,10 +135,10 @@ mapDigit m k = digitBy (m .order) (perByte m) (k % perByte m)
 
 -- the code of block k in RAM, and RAM with it made v
 unfoldable pub codeOf : Layout → List ℕ → ℕ → ℕ
-codeOf m ram k = digit (radix m) (mapDigit m k) (getD ram (mapByte m k) 0)
+codeOf m ram k = cellDigit (radix m) ram (mapByte m k) (mapDigit m k)
 
 unfoldable pub setCode : Layout → List ℕ → ℕ → ℕ → List ℕ
-setCode m ram k v = set ram (mapByte m k) (setDigit (radix m) (mapDigit m k) (getD ram (mapByte m k) 0) v)
+setCode m ram k v = setCellDigit (radix m) ram (mapByte m k) (mapDigit m k) v
 
 -- RAM with the codes vs written to block k and those after it
 unfoldable pub setCodes : Layout → List ℕ → ℕ → List ℕ → List ℕ

@@ -67,7 +67,7 @@ abbrev pub runAsBytes : State → List ℕ
 runAsBytes s = wordBytes (s .bound .0) ++ wordBytes (s .safepointer .0) ++ (s .domain ∷ [])
 
 unfoldable pub slotOf : State → List ℕ
-slotOf s = configAsBytes (s .config) ++ runAsBytes s ++ (0 ∷ [])
+slotOf s = configAsBytes (s .config) ++ (runAsBytes s ++ (0 ∷ []))
 
 -- ---- the answer
 
