@@ -4,3 +4,13 @@ pub mod Row
 pub mod Shown
 pub mod Holds
 pub mod Store
+pub mod Malloc
+pub mod Free
+pub mod Call
+pub mod Return
+pub mod SetUp
+pub mod Sorts
+pub mod Steps
+pub mod Change
+pub mod Keeping
+pub mod Theorem
