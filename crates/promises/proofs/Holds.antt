@@ -198,7 +198,7 @@ run-out k n j t l =
     (λ u. absurd (true≢false (sym (and-true (leb k j) (ltb j (k + n)) (le-leb k j l) u) ∙ t)))
     (λ u. ltb-false j (k + n) u)
 
-row-recoded : (c : Config) → GoodConfig c → (ram : List ℕ) → length ram ≡ ramBytes → (k : ℕ) (vs : List ℕ)
+pub row-recoded : (c : Config) → GoodConfig c → (ram : List ℕ) → length ram ≡ ramBytes → (k : ℕ) (vs : List ℕ)
     → k + length vs ≤ safeBlock c → AllBelow (radix (layoutOf c)) vs
     → Recoded c ram (setCodes (layoutOf c) ram k vs) (inRun k (length vs)) (λ j. getD vs (j - k) 0)
 row-recoded c g ram size k vs u below =

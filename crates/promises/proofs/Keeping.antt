@@ -88,7 +88,7 @@ module _ (s : State) (ram : List ℕ) (gs : List Segment) (ks : List OpenCall) (
       ]
 
 -- what the rows of what is asked say of it when it is done
-done-rows : (h : History) (o : Asked) (op : Operation) → o .operation ≡ op → (v : ℕ) → answerTo h o ≡ Done v
+pub done-rows : (h : History) (o : Asked) (op : Operation) → o .operation ≡ op → (v : ℕ) → answerTo h o ≡ Done v
     → rowsOf (stateOf h) (seenBy inUse (stateOf h) (ramOf h)) (o .lent) op ≡ Done v
 done-rows h o op q v e = rw q at (rows-done (stateOf h) (ramOf h) (o .lent) (o .operation) v e)
 

@@ -14,3 +14,6 @@ pub mod Steps
 pub mod Change
 pub mod Keeping
 pub mod Theorem
+pub mod Room
+pub mod FromC
+pub mod Incident

@@ -1,7 +1,7 @@
 -- Each operation keeps the invariant, so every history that is as assumed has it.
 -- Assumes nothing.
 use Prim.Native.Nat.{ℕ}
-use mathlib.Core.Path.{_≡_, sym, _∙_, subst}
+use mathlib.Core.Path.{_≡_, refl, sym, _∙_, subst}
 use Rattle.rules.specs.declared.Config.{Config}
 use Rattle.rules.specs.declared.Answer.the-variants.{Done}
 use Rattle.rules.specs.declared.Operation.{Operation}
@@ -69,3 +69,9 @@ stays-bytes (h then o) a b = kept h (always h (a .0)) o .bytes (stays-bytes h (a
 pub earlier : (P : History → Asked → Type 0) (from : History) {h : History} → Assumed h → Stretch P from h → Assumed from
 earlier P from a none = a
 earlier P from a (next before p) = earlier P from (a .0) before
+
+-- and has one configuration
+pub same-config : (P : History → Asked → Type 0) (from : History) {l : History} → Stretch P from l → configOf l ≡ configOf from
+unfolding configOf
+same-config P from none = refl
+same-config P from (next before p) = same-config P from before
