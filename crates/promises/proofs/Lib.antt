@@ -17,3 +17,6 @@ pub mod Theorem
 pub mod Room
 pub mod FromC
 pub mod Incident
+pub mod Limits
+pub mod Sample
+pub mod Instance

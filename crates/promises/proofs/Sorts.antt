@@ -18,7 +18,7 @@ use Rattle.promises.specs.Ledger.{Segment, booked}
 abbrev pub NoStore : Operation → Type 0
 NoStore op = (a : RamByte) (b : ℕ) → op ≡ Store a b → ⊥
 
-pub as-store : (op : Operation) → ((a : RamByte) × (b : ℕ) × (op ≡ Store a b)) ⊎ NoStore op
+unfoldable pub as-store : (op : Operation) → ((a : RamByte) × (b : ℕ) × (op ≡ Store a b)) ⊎ NoStore op
 as-store (Store a b) = inl (a, b, refl)
 as-store (Call t site p) = inr (λ a b e. let z : _≡_ {A = ℕ} 0 1 = cc in omega arith)
 as-store Return = inr (λ a b e. let z : _≡_ {A = ℕ} 0 1 = cc in omega arith)
