@@ -34,7 +34,7 @@ use Rattle.promises.specs.Calls.{Kind, local, cross, OpenCall, domainIns
 use Rattle.promises.proofs.Holds.{Holds, Kept, Keeps, doneBy, plain, by-rows, same-code}
 
 -- the table of call
-abbrev callTests : State → List ℕ → FlashWord → FlashWord → RamByte → List (Bool × Refusal)
+abbrev pub callTests : State → List ℕ → FlashWord → FlashWord → RamByte → List (Bool × Refusal)
 callTests s table t site p =
     (not (goodSite (s .config) (s .domain) site), SiteOutside)
     ∷ (isLocal (s .config) t && not (inRange (rangeOf (s .config) (s .domain)) t), TargetOutside)

@@ -39,9 +39,12 @@ pub record Own (s : State) (codes : Codes) (a : RamByte) (v : ℕ) : Type 0 wher
   pub owner : ownerAt (s .config) codes a ≡ s .domain
   pub count : blocksAt s codes a ≡ v
 
-abbrev freeTests : State → Codes → RamByte → List (Bool × Refusal)
+abbrev pub freeTests : State → Codes → RamByte → List (Bool × Refusal)
 freeTests s codes a =
     (not (isSegment (s .config) codes a), NoSegment) ∷ (not (eqb (ownerAt (s .config) codes a) (s .domain)), NotOwner) ∷ []
+
+abbrev pub changeTests : State → Codes → RamByte → ℕ → List (Bool × Refusal)
+changeTests s codes a d = freeTests s codes a ++ ((not (isModule (s .config) d), DomainAbove) ∷ [])
 
 pub freed-own : (s : State) (codes : Codes) (a : RamByte) (v : ℕ) → freeRows s codes a ≡ Done v → Own s codes a v
 freed-own s codes a v e =
@@ -51,7 +54,7 @@ freed-own s codes a v e =
 pub changed-own : (s : State) (codes : Codes) (a : RamByte) (d v : ℕ) → changeRows s codes a d ≡ Done v
     → Own s codes a v × (isModule (s .config) d ≡ true)
 changed-own s codes a d v e =
-    let (t, last) = passed (freeTests s codes a ++ ((not (isModule (s .config) d), DomainAbove) ∷ [])) (Done (blocksAt s codes a)) v e in (
+    let (t, last) = passed (changeTests s codes a d) (Done (blocksAt s codes a)) v e in (
       record { segment = not-false _ (t .0); owner = eqb-true _ _ (not-false _ (t .1 .0)); count = (cc) },
       not-false _ (t .1 .1 .0),
     )

@@ -11,6 +11,7 @@ use lib.Dec.{eqb}
 use borrow.Author.Tests.{eq-eqb, ne-eqb, le-ltb, lt-leb}
 use Rattle.rules.specs.declared.State.{State}
 use Rattle.rules.specs.declared.Config.{Config}
+use Rattle.rules.specs.declared.Frame.{Frame}
 use Rattle.rules.specs.declared.Answer.the-variants.{Done, Refused}
 use Rattle.rules.specs.declared.Refusal.{Refusal}
 use Rattle.rules.specs.declared.Operation.the-variants.{Return}
@@ -32,9 +33,8 @@ use Rattle.promises.specs.Calls.{Kind, local, cross, OpenCall, domainIns
 use Rattle.promises.proofs.Holds.{Link, Holds, Kept, plain}
 
 -- the table of return
-abbrev returnTests : State → List ℕ → List (Bool × Refusal)
-returnTests s ram =
-    (eqb (s .safepointer .0) (s .config .safe .0), NoFrame) ∷ (damaged s (topFrame s ram), DamagedFrame) ∷ []
+abbrev pub returnTests : State → Frame → List (Bool × Refusal)
+returnTests s frame = (eqb (s .safepointer .0) (s .config .safe .0), NoFrame) ∷ (damaged s frame, DamagedFrame) ∷ []
 
 -- ---- a frame by the call's kind
 
@@ -103,7 +103,7 @@ module _ (s : State) (ram : List ℕ) (gs : List Segment) (k : OpenCall) (ks : L
   returns-site : (l : Lent) → answerBy inUse s ram l Return ≡ Done (k .site .0)
   returns-site l =
       below s ram l Return refl (h .size) (goodState-true s (h .good))
-      ∙ none-holds (returnTests s ram) (Done (siteOf (topFrame s ram))) (
+      ∙ none-holds (returnTests s (topFrame s ram)) (Done (siteOf (topFrame s ram))) (
         ne-eqb (s .safepointer .0) (s .config .safe .0) (λ e. omega (arith, held, frame-some (k .kind) k)),
         (ap (damaged s) top-frame ∙ sound s k ks (h .chain .0) (k .kind) (h .current) bound≤, tt),
       )

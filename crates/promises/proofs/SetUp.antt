@@ -27,7 +27,8 @@ use Rattle.promises.specs.Calls.{framesOf}
 use Rattle.promises.proofs.Row.{code-none}
 use Rattle.promises.proofs.Holds.{Holds}
 
-abbrev setUpTests : Config → List ℕ → List (Bool × Refusal)
+-- the table of set-up
+abbrev pub setUpTests : Config → List ℕ → List (Bool × Refusal)
 setUpTests c ram = (not (eqb (length ram) ramBytes), WrongSize) ∷ (not (goodConfig c), BrokenRule) ∷ []
 
 fresh-holds : (c : Config) (ram : List ℕ) → goodConfig c ≡ true → length ram ≡ ramBytes → Holds (fresh c) (setUpRam (layoutOf c) c ram) [] []

@@ -40,7 +40,7 @@ pub record OwnStore (s : State) (codes : Codes) (a : RamByte) : Type 0 where
   pub toBound : s .config .top .0 ≤ a .0 → a .0 ≤ s .bound .0
 
 -- the table of store
-abbrev storeTests : State → Codes → RamByte → List (Bool × Refusal)
+abbrev pub storeTests : State → Codes → RamByte → List (Bool × Refusal)
 storeTests s codes a =
     (leb ramBytes (a .0), PastRam)
     ∷ (not (isTrusted s) && ofOther s codes a, OtherOwner)

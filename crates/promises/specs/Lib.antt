@@ -30,7 +30,8 @@ pub mod Ledger
 pub mod Promise
 pub mod FromC
 pub mod Incident
--- demand 2 and section 10
+-- demands 1 and 2, and section 10
+pub mod Demand1
 pub mod Room
 pub mod Uniqueness
 -- section 8
