@@ -17,7 +17,7 @@ use Rattle.rules.specs.declared.State.{State}
 use Rattle.rules.specs.Memory.{trusted}
 use Rattle.rules.specs.Code.{domains, ordered}
 use Rattle.rules.specs.State.{goodState}
-use Rattle.rules.specs.Bytes.{wordAt, configBytes, rangesPlace, rangesAsBytes, boundsAsBytes, configAsBytes}
+use Rattle.rules.specs.Bytes.{wordAt, rangesPlace, rangesAsBytes, boundsAsBytes, configAsBytes}
 use Rattle.rules.specs.Slot.{slotBytes, configPart, runPart, boundPlace, safepointerPlace, domainPlace, zeroPart, configIn, stateIn, runAsBytes, slotOf}
 use Rattle.laws.proofs.Parts.{getD-sets-after}
 use Rattle.laws.proofs.Tests.{each}

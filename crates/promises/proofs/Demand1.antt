@@ -4,7 +4,7 @@ use Prim.Native.Nat.{ℕ}
 use mathlib.Core.Path.{_≡_, refl}
 use mathlib.Core.Logic.{inl, inr, _≢_}
 use mathlib.Core.Bool.{Bool, true, false, cond, not, false≢true, _&&_, _||_}
-use mathlib.Core.List.{List, [], _∷_, _++_}
+use mathlib.Core.List.{List, [], _∷_}
 use lib.ListN.{length}
 use lib.Dec.{eqb}
 use borrow.Author.Tests.{eqb-true}
@@ -17,7 +17,7 @@ use Rattle.rules.specs.declared.Refusal.{Refusal}
 use Rattle.rules.specs.declared.Refusal.the-variants.{WrongSize, BadState}
 use Rattle.rules.specs.Memory.{ramBytes, inUse, layoutOf}
 use Rattle.rules.specs.Code.{isLocal, entryOf}
-use Rattle.rules.specs.State.{goodConfig, goodState, fresh, zeros}
+use Rattle.rules.specs.State.{goodState, fresh, zeros}
 use Rattle.rules.specs.Answers.{_⇒_∣_, give, numberOf, numberOfRefusal}
 use Rattle.rules.specs.SetUp.{setUpAnswer, setUpRam}
 use Rattle.rules.specs.Return.{readFrame, siteOf}

@@ -17,7 +17,6 @@ use Rattle.laws.proofs.Codes.{module-lt}
 use Rattle.laws.proofs.Good.{GoodConfig, goodState-true, bot<heap}
 use Rattle.laws.proofs.Operations.{below}
 use Rattle.promises.specs.History.{Asked, History, _then_, stateOf, ramOf, configOf, domainOf, byteAt, answerTo, Says, Assumed, Stretch, none, next}
-use Rattle.promises.specs.Calls.{openCalls}
 use Rattle.promises.specs.Ledger.{Segment, ledger, InSegment}
 use Rattle.promises.specs.Promise.{_∈_, GivesUp, StoredByHolder}
 use Rattle.promises.specs.Incident.{NotGivenUp, Protected, NoIncident}

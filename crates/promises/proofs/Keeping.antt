@@ -20,7 +20,7 @@ use Rattle.rules.specs.Free.{segmentBlocks}
 use Rattle.rules.specs.Operations.{seenBy, rowsOf}
 use Rattle.laws.proofs.Tests.{byTest}
 use Rattle.laws.proofs.Blocks.{blocksFor-holds, blocksFor-less}
-use Rattle.promises.specs.History.{Asked, History, _then_, stateOf, ramOf, configOf, domainOf, answerTo}
+use Rattle.promises.specs.History.{Asked, History, _then_, stateOf, ramOf, configOf, answerTo}
 use Rattle.promises.specs.Ledger.{Segment, entered, replacedAt, struck, madeOver, booked, ledger}
 use Rattle.promises.specs.Calls.{OpenCall, domainLeft, openCalls}
 use Rattle.promises.specs.Promise.{_∈_, OwnSegment, GivenSegment, GivesUp}

@@ -10,7 +10,7 @@ use native.Mathlib.Omega.{arith}
 use lib.ListN.{length, set, length-set}
 use lib.Seq.{getD-set-other}
 use lib.Dec.{ltb, leb}
-use borrow.Author.Tests.{ltb-true, ltb-false, leb-false, eqb-true, eqb-false, not-false, le-leb, lt-ltb}
+use borrow.Author.Tests.{ltb-true, ltb-false, eqb-true, eqb-false, not-false, le-leb, lt-ltb}
 use Rattle.rules.specs.declared.RamByte.{RamByte}
 use Rattle.rules.specs.declared.Config.{Config}
 use Rattle.rules.specs.declared.State.{State}
@@ -27,7 +27,6 @@ use Rattle.laws.proofs.Rows.{passed}
 use Rattle.laws.proofs.Parts.{set-bytes}
 use Rattle.laws.proofs.Codes.{module-lt, domain-module, setUpCode-owner}
 use Rattle.laws.proofs.Good.{GoodConfig, safeBlock≤blocks, blocks≤places, to-top, in-heap}
-use Rattle.promises.specs.History.{InMap, InSafeStack}
 use Rattle.promises.specs.Ledger.{Segment}
 use Rattle.promises.specs.Calls.{OpenCall}
 use Rattle.promises.proofs.Holds.{Holds, Out, Kept, by-rows, same-code, same-slice}
