@@ -7,6 +7,7 @@ ghost use Rattle.rules.specs.Code.{flashWord};
 ghost use Rattle.rules.specs.State.{ramByte};
 ghost use Rattle.rules.specs.Malloc.{block};
 
+pub mod domains;
 pub mod packing;
 
 use rules::Block;
