@@ -1,7 +1,7 @@
 -- `address::packing::to_whole` meets its contract. Assumes nothing.
 use mathlib.Core.Path.{refl}
 use Rattle.rules.specs.Memory.{perByte}
-use Rattle.address.specs.Whole.{toWhole}
+use Rattle.address.specs.Places.{toWhole}
 use borrow.Author.Needs.{needs}
 use Rattle.address.proofs.packing.to_whole.Statement.{statement}
 use Rattle.address.proofs.packing.to_whole.Tie as tie
