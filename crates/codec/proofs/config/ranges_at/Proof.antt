@@ -30,7 +30,17 @@ code-at-requires-8 c κs = search needs
 
 returns : tie.Need-returns
 unfolding rangesAt
-returns c = cc
+returns c =
+    rw (
+      c .before .before .before .before .before .before .before .code-at .ensures,
+      c .before .before .before .before .before .before .code-at2 .ensures,
+      c .before .before .before .before .before .code-at3 .ensures,
+      c .before .before .before .before .code-at4 .ensures,
+      c .before .before .before .code-at5 .ensures,
+      c .before .before .code-at6 .ensures,
+      c .before .code-at7 .ensures,
+      c .code-at8 .ensures,
+    )
 
 pub ranges-at-spec : {M : Type 1} → statement M
 ranges-at-spec =
