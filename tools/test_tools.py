@@ -554,25 +554,33 @@ pub fn put(n: u16, out: &mut [u8]) -> u16
 
     # ---- building ----
 
-    def test_builds_when_due(self):
-        """With a stand-in for rt: built when it is missing or older than a source, said once, and not else."""
+    def unbuilt(self, crates):
+        """A copy of what ./run needs, with nothing built, and with a stand-in for rt that knows these crates: it writes down what it was
+        asked, says that each crate is proved and copies a program; it refuses where a file `refuse` is. The command, its
+        environment and the program."""
         for part in ("run", "tools", "examples"):
             copy = shutil.copytree if (ROOT / part).is_dir() else shutil.copy
             copy(ROOT / part, self.folder / part)
         for folder in ("crates/hmt", "bin"):
             (self.folder / folder).mkdir(parents=True)
-        source = self.file("crates/hmt/main.rt", "")
+        self.file("crates.txt", "# a crate and those it rests on\n" + "".join(f"{name}: {on}\n" for name, on in crates.items()))
         # what the program under test asks of rt goes to the real one
         stand_in = self.file("bin/rt", f'#!/bin/sh\ntest "$1" != doc || exec "{shutil.which("rt")}" doc\n'
-                             'echo "checked: $*"\ntest ! -e refuse || exit 1\n'
+                             'echo "$*" >> asked\necho "struct a::B: proved"\n'
+                             'test ! -e refuse || { echo "rt: a NOT PROVED" >&2; exit 1; }\n'
+                             f'for name in {" ".join(crates)}; do echo "rt: $name proved (1 s)"; done\n'
                              'test -e target/bin/hmt || { mkdir -p target/bin; cp program target/bin/hmt; }\n')
         runner = self.file("tools/hmt", '#!/bin/sh\nexec "$(dirname "$0")/../target/bin/hmt"\n')
         for path in (stand_in, runner, self.file("program", f'#!/bin/sh\nexec "{PROGRAM}"\n')):
             os.chmod(path, 0o755)
-        built = self.folder / "target" / "bin" / "hmt"
         command = [str(self.folder / "run"), "--plain", str(self.folder / "examples" / "sample.txt")]
-        env = {"HMT": "", "PATH": f"{self.folder / 'bin'}:{os.environ['PATH']}"}
+        return command, {"HMT": "", "PATH": f"{self.folder / 'bin'}:{os.environ['PATH']}"}, self.folder / "target" / "bin" / "hmt"
 
+    def test_builds_when_due(self):
+        """Built when it is missing or older than a source, said once, and not else."""
+        command, env, built = self.unbuilt({"hmt": ""})
+        source = self.file("crates/hmt/main.rt", "")
+        asked = 0
         for built_age, due in ((None, True), (None, False), (100, False), (300, True), (None, False)):
             os.utime(source, (time.time() - 200,) * 2)
             if built_age:
@@ -581,16 +589,36 @@ pub fn put(n: u16, out: &mut [u8]) -> u16
                 result = self.start(command, env=env, cwd="/")
                 self.assertEqual((result.returncode, result.stdout), (0, SAMPLE_ANSWERS))
                 self.assertEqual(result.stderr.count("building target/bin/hmt"), due)
-                self.assertEqual(result.stderr.count("checked: check hmt"), due)
+                asked += due
+                self.assertEqual((self.folder / "asked").read_text(), "check hmt\n" * asked)
         os.remove(built)
         self.file("refuse", "")
         result = self.start(command, env=env)
         self.assertEqual((result.returncode, result.stdout), (2, b""))
-        self.assertIn("can't build target/bin/hmt: `rt check hmt` ended with status 1", result.stderr)
-        os.remove(stand_in)
+        self.assertIn("struct a::B: proved\nrt: a NOT PROVED\n"
+                      "can't build target/bin/hmt: `rt check hmt` ended with status 1\n", result.stderr)
+        os.remove(self.folder / "bin" / "rt")
         result = self.start([sys.executable, *command], env={**env, "PATH": str(self.folder / "bin")})
         self.assertEqual(result.returncode, 2)
         self.assertIn("can't build target/bin/hmt: rt: No such file", result.stderr)
+
+    def test_building_says_which_crate_is_proved(self):
+        """A line for each crate that the program rests on, and nothing of what rt says; on a terminal one line, in the end empty."""
+        command, env, built = self.unbuilt({"rules": "", "map": "rules", "aside": "rules", "hmt": "map io"})
+        steps = ["run: proving rules (1 of 3)", "run: proving map (2 of 3)", "run: proving hmt (3 of 3)"]
+        result = self.start(command, env=env)
+        self.assertEqual((result.returncode, result.stdout), (0, SAMPLE_ANSWERS))
+        first, *others = result.stderr.splitlines()
+        self.assertIn("about three minutes", first)
+        self.assertEqual(others, steps)
+        os.remove(built)
+        reader, terminal = os.openpty()
+        self.addCleanup(os.close, reader)
+        result = subprocess.run(command, env={**os.environ, **env}, stdin=subprocess.DEVNULL, stdout=subprocess.PIPE, stderr=terminal)
+        os.close(terminal)
+        self.assertEqual((result.returncode, result.stdout), (0, SAMPLE_ANSWERS))
+        shown = os.read(reader, 9999).decode()
+        self.assertEqual(shown.split("\r\n"), [first, "".join("\r\033[K" + step for step in [*steps, ""])])
 
 
 class Count(unittest.TextTestResult):
