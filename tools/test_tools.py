@@ -552,6 +552,28 @@ pub fn put(n: u16, out: &mut [u8]) -> u16
         self.assertIn("`use other.Place.{_≢_ as _≡_}` renames", page)
         self.assertTrue(page.endswith("contracts: 0 passed, 1 failed\n"), page)
 
+    # ---- addresses ----
+
+    def test_addresses_that_are_mixed(self):
+        """What tools/addresses.py finds in a made-up source, and that it passes what is right."""
+        right = "pub fn f(config: Config, a: RamByte) -> bool\n{ a.0 <= 3 && above(a, n).0 == 4 }\n"
+        for name, text, wrong in (
+                ("frames", right, ""),
+                ("frames", "fn f(k: u16) { RamByte(k) }", "1: an address is made from a number"),
+                ("frames", "\nfn f(mut r: RamByte, k: FlashWord) { r.0 = k.0; }", "2: the number inside an address is stored to"),
+                ("frames", "fn f(mut r: RamByte) { r.0 += 1; }", "1: the number inside an address is stored to"),
+                ("frames", "fn f(bot: RamByte, site: FlashWord) { above(bot, site.0) }", "1: the number inside an address is handed as an offset"),
+                ("frames", "use rules::Block;", "1: a block number outside the map code"),
+                ("map", "fn f(k: Block) { further(k, 1) }", ""),
+                ("map", "pub fn f(\n    config: Config,\n    k: Block,\n) -> u16\n{ 1 }", "1: a public function of the map names a block")):
+            with self.subTest(text=text):
+                root = Path(tempfile.mkdtemp(dir=self.folder))
+                (root / "crates" / name / "src").mkdir(parents=True)
+                (root / "crates" / name / "src" / "lib.rt").write_text(text, encoding="utf-8")
+                result = self.start([sys.executable, str(ROOT / "tools" / "addresses.py")], root)
+                self.assertEqual(result.stdout.decode(), f"crates/{name}/src/lib.rt:{wrong}\n" if wrong else "")
+                self.assertEqual(result.returncode, 1 if wrong else 0)
+
     # ---- building ----
 
     def unbuilt(self, crates):
