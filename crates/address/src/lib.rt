@@ -7,9 +7,11 @@ ghost use Rattle.rules.specs.Code.{flashWord};
 ghost use Rattle.rules.specs.State.{ramByte};
 ghost use Rattle.rules.specs.Malloc.{block};
 
+pub mod domains;
 pub mod packing;
 
 use rules::Block;
+use rules::Config;
 use rules::FlashWord;
 use rules::RamByte;
 
@@ -19,27 +21,27 @@ pub const RAM_BYTES: u16 = 4096;
 const BLOCK_BYTES: u16 = 8;
 
 // How many whole blocks lie from bot up to an address.
-pub fn whole_blocks(bot: RamByte, a: RamByte) -> u16
-    requires { ⌜ bot .0 ≤ a .0 ⌝ }
-    ensures { λ r. ⌜ r ≡ blockOf bot a ⌝ }
+pub fn whole_blocks(config: Config, a: RamByte) -> u16
+    requires { ⌜ config .bot .0 ≤ a .0 ⌝ }
+    ensures { λ r. ⌜ r ≡ blockOf config a ⌝ }
 {
-    (a.0 - bot.0) / BLOCK_BYTES
+    (a.0 - config.bot.0) / BLOCK_BYTES
 }
 
 // The block that an address from bot on lies in: as many whole ones lie below it.
-pub fn block_of(bot: RamByte, a: RamByte) -> Block
-    requires { ⌜ bot .0 ≤ a .0 ⌝ }
-    ensures { λ r. ⌜ r ≡ block (blockOf bot a) ⌝ }
+pub fn block_of(config: Config, a: RamByte) -> Block
+    requires { ⌜ config .bot .0 ≤ a .0 ⌝ }
+    ensures { λ r. ⌜ r ≡ block (blockOf config a) ⌝ }
 {
-    Block(whole_blocks(bot, a))
+    Block(whole_blocks(config, a))
 }
 
 // The first byte of a block.
-pub fn start_of(bot: RamByte, k: Block) -> RamByte
-    requires { ⌜ startOf bot (k .0) < 65536 ⌝ }
-    ensures { λ r. ⌜ r ≡ ramByte (startOf bot (k .0)) ⌝ }
+pub fn start_of(config: Config, k: Block) -> RamByte
+    requires { ⌜ startOf config (k .0) < 65536 ⌝ }
+    ensures { λ r. ⌜ r ≡ ramByte (startOf config (k .0)) ⌝ }
 {
-    RamByte(bot.0 + k.0 * BLOCK_BYTES)
+    RamByte(config.bot.0 + k.0 * BLOCK_BYTES)
 }
 
 // The block n further on.
@@ -65,8 +67,8 @@ pub fn first_block() -> Block
     Block(0)
 }
 
-pub fn is_multiple(a: RamByte) -> bool
-    ensures { λ r. ⌜ r ≡ isMultiple a ⌝ }
+pub fn is_multiple(config: Config, a: RamByte) -> bool
+    ensures { λ r. ⌜ r ≡ isMultiple config a ⌝ }
 {
     a.0 % BLOCK_BYTES == 0
 }
@@ -80,8 +82,8 @@ fn divided_up(n: u16, d: u16) -> u16
 }
 
 // How many blocks hold size bytes.
-pub fn blocks_for(size: u16) -> u16
-    ensures { λ r. ⌜ r ≡ blocksFor size ⌝ }
+pub fn blocks_for(config: Config, size: u16) -> u16
+    ensures { λ r. ⌜ r ≡ blocksFor config size ⌝ }
 {
     divided_up(size, BLOCK_BYTES)
 }

@@ -14,7 +14,8 @@ use Rattle.rules.specs.Memory.{trusted}
 use Rattle.rules.specs.Code.{flashWord}
 use Rattle.rules.specs.State.{ramByte}
 use Rattle.rules.specs.Call.{localTag}
-use Rattle.rules.specs.Return.{wordAt, readFrame}
+use Rattle.rules.specs.Bytes.{wordAt}
+use Rattle.rules.specs.Return.{readFrame}
 use Rattle.laws.proofs.Frames.{read-local, read-cross}
 
 module _ (area : List ℕ) (used : ℕ) (some : 0 < used) (fits : used ≤ length area) where

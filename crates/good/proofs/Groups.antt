@@ -14,7 +14,7 @@ use Rattle.rules.specs.declared.FlashWord.{FlashWord}
 use Rattle.rules.specs.declared.Range.{Range}
 use Rattle.rules.specs.declared.Config.{Config}
 use Rattle.rules.specs.declared.State.{State}
-use Rattle.rules.specs.Memory.{ramBytes, trusted, blockOf, blocks, mapBytesFor, mapBytes}
+use Rattle.rules.specs.Memory.{ramBytes, layoutOf, blockOf, blocks, mapBytesFor, mapBytes}
 use Rattle.rules.specs.Code.{emptyRange, ordered, apart, apartFrom, allApart}
 use Rattle.rules.specs.State.{multiples, botBelowTop, mapBelowHeap, heapBelowSafe, safeBelowTop, topInRam, jtInFlash, rangesOrdered, rangesApart, goodConfig, domainGood, boundGood, safepointerGood, goodState}
 use Rattle.laws.proofs.Map.{mapBytesFor-le}
@@ -53,14 +53,14 @@ module _ (c : Config) where
   ranges-decide h = sym (config-parts ∙ left-true (boundsGood c) _ h)
 
 -- what the code takes for the map's length is that
-pub map-length : (c : Config) {n m : ℕ} → n ≡ blockOf (c .bot) (c .top) → m ≡ mapBytesFor n → m ≡ mapBytes c
+pub map-length : (c : Config) {n m : ℕ} → n ≡ blockOf c (c .top) → m ≡ mapBytesFor (layoutOf c) n → m ≡ mapBytes c
 unfolding mapBytes blocks
-map-length c e h = h ∙ ap mapBytesFor e
+map-length c e h = h ∙ ap (mapBytesFor (layoutOf c)) e
 
 -- the sum of bot and the map's length fits sixteen bits
 pub end-fits : (c : Config) → c .bot .0 < c .top .0 → c .top .0 ≤ ramBytes → c .bot .0 + mapBytes c < 65536
 unfolding mapBytes blocks
-end-fits c bt tr = omega (arith, mapBytesFor-le (blockOf (c .bot) (c .top)), block-small (c .bot) (c .top))
+end-fits c bt tr = omega (arith, mapBytesFor-le (layoutOf c) (blockOf c (c .top)), block-small c (c .top))
 
 -- where the other bounds hold, the map's end decides
 pub end-decides : (c : Config) → c .bot .0 < c .top .0 → c .heap .0 ≤ c .safe .0 → c .safe .0 ≤ c .top .0 → c .top .0 ≤ ramBytes
@@ -73,8 +73,8 @@ runGood s = domainGood s && boundGood s && safepointerGood s
 
 -- a state, by its fields
 module _ (s : State) where
-  pub domain-above : trusted < s .domain → false ≡ runGood s
-  domain-above h = simp (lt-leb _ _ h)
+  pub no-domain : domainGood s ≡ false → false ≡ runGood s
+  no-domain h = simp h
 
   pub bound-above : ramBytes ≤ s .bound .0 → false ≡ runGood s
   bound-above h = simp (le-ltb _ _ h, and-false)
@@ -85,10 +85,10 @@ module _ (s : State) where
   pub pointer-below : s .safepointer .0 < s .config .safe .0 → false ≡ runGood s
   pointer-below h = simp (lt-leb _ _ h, and-false)
 
-  pub pointer-decides : s .domain ≤ trusted → s .bound .0 < ramBytes → s .config .top .0 ≤ s .bound .0 + 1
+  pub pointer-decides : domainGood s ≡ true → s .bound .0 < ramBytes → s .config .top .0 ≤ s .bound .0 + 1
       → s .config .safe .0 ≤ s .safepointer .0 → leb (s .safepointer .0) (s .config .top .0) ≡ runGood s
   pointer-decides d b t l =
-      simp (le-leb _ _ d, lt-ltb _ _ b, le-leb (s .config .top .0 - 1) (s .bound .0) (omega arith), le-leb _ _ l)
+      simp (d, lt-ltb _ _ b, le-leb (s .config .top .0 - 1) (s .bound .0) (omega arith), le-leb _ _ l)
 
   state-parts : goodState s ≡ (runGood s && goodConfig (s .config))
   unfolding goodState

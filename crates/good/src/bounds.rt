@@ -7,16 +7,16 @@ use rules::Config;
 pub fn multiples(config: Config) -> bool
     ensures { λ r. ⌜ r ≡ multiples config ⌝ }
 {
-    if !address::is_multiple(config.bot) {
+    if !address::is_multiple(config, config.bot) {
         return false;
     }
-    if !address::is_multiple(config.heap) {
+    if !address::is_multiple(config, config.heap) {
         return false;
     }
-    if !address::is_multiple(config.safe) {
+    if !address::is_multiple(config, config.safe) {
         return false;
     }
-    address::is_multiple(config.top)
+    address::is_multiple(config, config.top)
 }
 
 // Top is tested first, so that no sum or difference below can wrap.
@@ -35,7 +35,7 @@ pub fn in_order(config: Config) -> bool
     if config.top.0 <= config.bot.0 {
         return false;
     }
-    let blocks = address::whole_blocks(config.bot, config.top);
-    let bytes = address::packing::map_bytes_for(blocks);
+    let blocks = address::whole_blocks(config, config.top);
+    let bytes = address::packing::map_bytes_for(config, blocks);
     config.bot.0 + bytes <= config.heap.0
 }

@@ -6,11 +6,9 @@ ghost use Rattle.rules.specs.State.{multiples, botBelowTop, mapBelowHeap, heapB
 mod bounds;
 mod ranges;
 
+use address::domains::is_domain;
 use rules::Config;
 use rules::State;
-
-// The trusted domain, the last of eight.
-const TRUSTED: u8 = 7;
 
 // The jump tables end where flash does.
 const LAST_JT: u16 = 64512;
@@ -48,7 +46,7 @@ pub fn good_config(config: Config) -> bool
 pub fn good_run(state: State) -> bool
     ensures { λ r. ⌜ r ≡ (domainGood state && boundGood state && safepointerGood state) ⌝ }
 {
-    if TRUSTED < state.domain {
+    if !is_domain(state.config, state.domain) {
         return false;
     }
     if address::RAM_BYTES <= state.bound.0 {

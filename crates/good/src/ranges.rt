@@ -5,7 +5,7 @@ ghost use Prim.Native.Nat.{suc, _<_};
 ghost use lib.ListN.{drop};
 ghost use Rattle.rules.specs.Code.{domains, rangeOf, apart, apartFrom};
 ghost use Rattle.rules.specs.State.{rangesOrdered, rangesApart};
-use crate::TRUSTED;
+use address::domains::TRUSTED;
 use rules::Config;
 use rules::Range;
 

@@ -10,7 +10,7 @@ use lib.ListN.{length, getD, length-replicate, getD-replicate}
 use borrow.Author.Tests.{eqb-true, eqb-false, leb-true, ltb-true, ne-eqb, eq-eqb, lt-ltb, le-leb, le-ltb}
 use lib.Dec.{eqb, ltb}
 use Rattle.rules.specs.declared.Config.{Config}
-use Rattle.rules.specs.Memory.{Width, fourBits, Layout, layoutOf, radixBy, radix, trusted, domainBy, moduleBy, isDomain, isModule, startCodeBy, laterCodeBy, freeCodeBy, ownerBy, startCode, laterCode, freeCode, ownerOf, startsSegment, segmentCodes, heapBlock, safeBlock, blocks}
+use Rattle.rules.specs.Memory.{Width, fourBits, Layout, widthOf, layoutOf, radixBy, radix, trusted, domainBy, moduleBy, isDomain, isModule, startCodeBy, laterCodeBy, freeCodeBy, ownerBy, startCode, laterCode, freeCode, ownerOf, startsSegment, segmentCodes, heapBlock, safeBlock, blocks}
 use Rattle.rules.specs.Code.{tableWords, domainWords}
 use Rattle.rules.specs.SetUp.{setUpCode, setUpCodes}
 use Rattle.laws.proofs.Tests.{byTest}
@@ -53,6 +53,15 @@ module _ (c : Config) where
   unfolding isModule isDomain
   domain-module = domain-module-by (layoutOf c .width)
 
+  -- as the laws of codes below ask it
+  pub domain-at : (d : ℕ) → isDomain c d ≡ true → domainBy (widthOf c) d ≡ true
+  unfolding isDomain
+  domain-at d h = h
+
+  pub module-at : (d : ℕ) → isModule c d ≡ true → moduleBy (widthOf c) d ≡ true
+  unfolding isModule
+  module-at d h = h
+
   pub trusted-domain : isDomain c trusted ≡ true
   unfolding isDomain
   trusted-domain = trusted-domain-by (layoutOf c .width)
@@ -61,15 +70,6 @@ module _ (c : Config) where
   pub called-domain : (word : ℕ) → word < tableWords → isDomain c (word / domainWords) ≡ true
   unfolding isDomain
   called-domain = called-domain-by (layoutOf c .width)
-
-  -- as the laws of codes ask for them
-  pub domain-by : (d : ℕ) → isDomain c d ≡ true → domainBy (layoutOf c .width) d ≡ true
-  unfolding isDomain
-  domain-by d h = h
-
-  pub module-by : (d : ℕ) → isModule c d ≡ true → moduleBy (layoutOf c .width) d ≡ true
-  unfolding isModule
-  module-by d h = h
 
 -- ---- the numbers of Table 1, each opened once for every width
 

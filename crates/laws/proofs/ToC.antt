@@ -91,7 +91,7 @@ module _ (slot ram : List ℕ) (n : ℕ) where
       record {
         none = λ z. absurd (omega arith);
         some = λ _ table op t.
-          rw (t, w, eq-eqb (getD slot zeroPart 0) 0 z, right-table table op, eq-eqb (length ram) ramBytes (right-size slot ram w .1), b) (e, refl, refl);
+            rw (t, w, eq-eqb (getD slot zeroPart 0) 0 z, right-table table op, eq-eqb (length ram) ramBytes (right-size slot ram w .1), b) (e, refl, refl);
       }
 
 pub judged-none : (slot ram : List ℕ) → Ready slot ram → Judged slot ram 0

@@ -6,7 +6,8 @@ ghost use mathlib.Core.Logic.{_≢_};
 ghost use mathlib.Core.Path.{_≡_};
 ghost use Prim.Native.Nat.{ℕ, _+_, _-_, _*_, _/_, _%_, _≤_, _<_};
 ghost use lib.ListN.{length, getD, replicate};
-ghost use Rattle.rules.specs.Memory.{ramBytes, radix, perByte, mapByte, mapDigit, mapBytesFor, safeBlock, codeOf, setCode, setCodes, startCode, laterCode, freeCode, ownerOf, startsSegment, trusted};
+ghost use Rattle.rules.specs.Memory.{ramBytes, fourBits, layoutOf, radixBy, radix, perByte, mapByte, mapDigit, mapBytesFor, safeBlock, codeOf, codesOf, setCode, setCodes, isDomain, startCode, laterCode, freeCodeBy, freeCode, ownerOf, startsSegment};
+ghost use Rattle.address.specs.Places.{mapAt, toWhole};
 ghost use Rattle.rules.specs.State.{goodConfig};
 ghost use Rattle.rules.specs.SetUp.{setUpRam};
 ghost use Rattle.rules.specs.Malloc.{lowestRun};
@@ -14,13 +15,15 @@ ghost use Rattle.rules.specs.Free.{segmentBlocks};
 
 pub mod by_address;
 
-use address::above;
 use address::before;
 use address::block_of;
+use address::domains::TRUSTED;
 use address::first_block;
 use address::further;
 use address::packing::PER_BYTE;
+use address::packing::map_byte;
 use address::packing::map_bytes_for;
+use address::packing::to_whole;
 use rules::Block;
 use rules::Config;
 use rules::Found;
@@ -29,23 +32,13 @@ use rules::RamByte;
 const RADIX: u8 = 16;
 
 const FREE: u8 = 15;
-// The trusted domain.
-pub const TRUSTED: u8 = 7;
-
-// The byte of the map that holds a block's code; of a block behind a run it may be the one behind RAM.
-fn map_byte(bot: RamByte, k: Block) -> RamByte
-    requires { ⌜ mapByte bot (k .0) ≤ ramBytes ⌝ }
-    ensures { λ r. ⌜ r .0 ≡ mapByte bot (k .0) ⌝ }
-{
-    above(bot, k.0 / PER_BYTE)
-}
 
 // An even block's code is the low half of its byte, an odd one's the high half.
 fn even_code(bot: RamByte, ram: &[u8], k: Block) -> u8
     requires { ⌜ length (now ram) ≡ ramBytes ⌝ }
-    requires { ⌜ mapByte bot (k .0) < ramBytes ⌝ }
-    requires { ⌜ mapDigit (k .0) ≡ 0 ⌝ }
-    ensures { λ r. ⌜ r ≡ codeOf bot (now (ram .entry)) (k .0) ⌝ }
+    requires { ⌜ mapByte (mapAt bot) (k .0) < ramBytes ⌝ }
+    requires { ⌜ mapDigit (mapAt bot) (k .0) ≡ 0 ⌝ }
+    ensures { λ r. ⌜ r ≡ codeOf (mapAt bot) (now (ram .entry)) (k .0) ⌝ }
 {
     let at = map_byte(bot, k);
     ram[at.0 as usize] % RADIX
@@ -53,9 +46,9 @@ fn even_code(bot: RamByte, ram: &[u8], k: Block) -> u8
 
 fn odd_code(bot: RamByte, ram: &[u8], k: Block) -> u8
     requires { ⌜ length (now ram) ≡ ramBytes ⌝ }
-    requires { ⌜ mapByte bot (k .0) < ramBytes ⌝ }
-    requires { ⌜ mapDigit (k .0) ≢ 0 ⌝ }
-    ensures { λ r. ⌜ r ≡ codeOf bot (now (ram .entry)) (k .0) ⌝ }
+    requires { ⌜ mapByte (mapAt bot) (k .0) < ramBytes ⌝ }
+    requires { ⌜ mapDigit (mapAt bot) (k .0) ≢ 0 ⌝ }
+    ensures { λ r. ⌜ r ≡ codeOf (mapAt bot) (now (ram .entry)) (k .0) ⌝ }
 {
     let at = map_byte(bot, k);
     ram[at.0 as usize] / RADIX
@@ -63,8 +56,8 @@ fn odd_code(bot: RamByte, ram: &[u8], k: Block) -> u8
 
 fn code_of(bot: RamByte, ram: &[u8], k: Block) -> u8
     requires { ⌜ length (now ram) ≡ ramBytes ⌝ }
-    requires { ⌜ mapByte bot (k .0) < ramBytes ⌝ }
-    ensures { λ r. ⌜ r ≡ codeOf bot (now (ram .entry)) (k .0) ⌝ }
+    requires { ⌜ mapByte (mapAt bot) (k .0) < ramBytes ⌝ }
+    ensures { λ r. ⌜ r ≡ codeOf (mapAt bot) (now (ram .entry)) (k .0) ⌝ }
 {
     if k.0 % PER_BYTE == 0 {
         return even_code(bot, ram, k);
@@ -75,10 +68,10 @@ fn code_of(bot: RamByte, ram: &[u8], k: Block) -> u8
 // The code of a block made another; the other code of its byte stays.
 fn set_even(bot: RamByte, ram: &mut [u8], k: Block, code: u8)
     requires { ⌜ length (now ram) ≡ ramBytes ⌝ }
-    requires { ⌜ mapByte bot (k .0) < ramBytes ⌝ }
-    requires { ⌜ mapDigit (k .0) ≡ 0 ⌝ }
-    requires { ⌜ code < radix ⌝ }
-    ensures { λ _. ⌜ now (ram .exit) ≡ setCode bot (now (ram .entry)) (k .0) code ⌝ }
+    requires { ⌜ mapByte (mapAt bot) (k .0) < ramBytes ⌝ }
+    requires { ⌜ mapDigit (mapAt bot) (k .0) ≡ 0 ⌝ }
+    requires { ⌜ code < radix (mapAt bot) ⌝ }
+    ensures { λ _. ⌜ now (ram .exit) ≡ setCode (mapAt bot) (now (ram .entry)) (k .0) code ⌝ }
 {
     let at = map_byte(bot, k);
     let byte = ram[at.0 as usize];
@@ -87,10 +80,10 @@ fn set_even(bot: RamByte, ram: &mut [u8], k: Block, code: u8)
 
 fn set_odd(bot: RamByte, ram: &mut [u8], k: Block, code: u8)
     requires { ⌜ length (now ram) ≡ ramBytes ⌝ }
-    requires { ⌜ mapByte bot (k .0) < ramBytes ⌝ }
-    requires { ⌜ mapDigit (k .0) ≢ 0 ⌝ }
-    requires { ⌜ code < radix ⌝ }
-    ensures { λ _. ⌜ now (ram .exit) ≡ setCode bot (now (ram .entry)) (k .0) code ⌝ }
+    requires { ⌜ mapByte (mapAt bot) (k .0) < ramBytes ⌝ }
+    requires { ⌜ mapDigit (mapAt bot) (k .0) ≢ 0 ⌝ }
+    requires { ⌜ code < radix (mapAt bot) ⌝ }
+    ensures { λ _. ⌜ now (ram .exit) ≡ setCode (mapAt bot) (now (ram .entry)) (k .0) code ⌝ }
 {
     let at = map_byte(bot, k);
     let byte = ram[at.0 as usize];
@@ -99,9 +92,9 @@ fn set_odd(bot: RamByte, ram: &mut [u8], k: Block, code: u8)
 
 fn set_code(bot: RamByte, ram: &mut [u8], k: Block, code: u8)
     requires { ⌜ length (now ram) ≡ ramBytes ⌝ }
-    requires { ⌜ mapByte bot (k .0) < ramBytes ⌝ }
-    requires { ⌜ code < radix ⌝ }
-    ensures { λ _. ⌜ now (ram .exit) ≡ setCode bot (now (ram .entry)) (k .0) code ⌝ }
+    requires { ⌜ mapByte (mapAt bot) (k .0) < ramBytes ⌝ }
+    requires { ⌜ code < radix (mapAt bot) ⌝ }
+    ensures { λ _. ⌜ now (ram .exit) ≡ setCode (mapAt bot) (now (ram .entry)) (k .0) code ⌝ }
 {
     if k.0 % PER_BYTE == 0 {
         set_even(bot, ram, k, code);
@@ -110,37 +103,37 @@ fn set_code(bot: RamByte, ram: &mut [u8], k: Block, code: u8)
     set_odd(bot, ram, k, code);
 }
 
-pub fn owner_of(code: u8) -> u8
-    ensures { λ r. ⌜ r ≡ ownerOf code ⌝ }
+pub fn owner_of(config: Config, code: u8) -> u8
+    ensures { λ r. ⌜ r ≡ ownerOf (layoutOf config) code ⌝ }
 {
     code / 2
 }
 
 // An odd code that is not 15 starts a heap segment.
-pub fn starts_segment(code: u8) -> bool
-    ensures { λ r. ⌜ r ≡ startsSegment code ⌝ }
+pub fn starts_segment(config: Config, code: u8) -> bool
+    ensures { λ r. ⌜ r ≡ startsSegment (layoutOf config) code ⌝ }
 {
     code % 2 == 1 && code != FREE
 }
 
-pub fn start_code(domain: u8) -> u8
-    requires { ⌜ domain ≤ trusted ⌝ }
-    ensures { λ r. ⌜ r ≡ startCode domain ⌝ }
+pub fn start_code(config: Config, domain: u8) -> u8
+    requires { ⌜ isDomain config domain ≡ true ⌝ }
+    ensures { λ r. ⌜ r ≡ startCode (layoutOf config) domain ⌝ }
 {
     2 * domain + 1
 }
 
-pub fn later_code(domain: u8) -> u8
-    requires { ⌜ domain ≤ trusted ⌝ }
-    ensures { λ r. ⌜ r ≡ laterCode domain ⌝ }
+pub fn later_code(config: Config, domain: u8) -> u8
+    requires { ⌜ isDomain config domain ≡ true ⌝ }
+    ensures { λ r. ⌜ r ≡ laterCode (layoutOf config) domain ⌝ }
 {
     2 * domain
 }
 
 // A byte whose codes are the same.
 fn both(code: u8) -> u8
-    requires { ⌜ code < radix ⌝ }
-    ensures { λ r. ⌜ r ≡ code * radix + code ⌝ }
+    requires { ⌜ code < radixBy fourBits ⌝ }
+    ensures { λ r. ⌜ r ≡ code * radixBy fourBits + code ⌝ }
 {
     code * RADIX + code
 }
@@ -149,8 +142,8 @@ fn both(code: u8) -> u8
 fn fill_bytes(from: RamByte, ram: &mut [u8], n: u16, code: u8)
     requires { ⌜ length (now ram) ≡ ramBytes ⌝ }
     requires { ⌜ from .0 + n ≤ ramBytes ⌝ }
-    requires { ⌜ code < radix ⌝ }
-    ensures { λ _. ⌜ now (ram .exit) ≡ setCodes from (now (ram .entry)) 0 (replicate (n * perByte) code) ⌝ }
+    requires { ⌜ code < radix (mapAt from) ⌝ }
+    ensures { λ _. ⌜ now (ram .exit) ≡ setCodes (mapAt from) (now (ram .entry)) 0 (replicate (n * perByte (mapAt from)) code) ⌝ }
 {
     let byte = both(code);
     let mut at = from.0 as usize;
@@ -164,10 +157,10 @@ fn fill_bytes(from: RamByte, ram: &mut [u8], n: u16, code: u8)
 // n blocks from an even one on, all of one code: whole bytes, and a last block alone in its byte.
 fn fill_from_even(bot: RamByte, ram: &mut [u8], k: Block, n: u16, code: u8)
     requires { ⌜ length (now ram) ≡ ramBytes ⌝ }
-    requires { ⌜ mapDigit (k .0) ≡ 0 ⌝ }
-    requires { ⌜ bot .0 + mapBytesFor (k .0 + n) ≤ ramBytes ⌝ }
-    requires { ⌜ code < radix ⌝ }
-    ensures { λ _. ⌜ now (ram .exit) ≡ setCodes bot (now (ram .entry)) (k .0) (replicate n code) ⌝ }
+    requires { ⌜ mapDigit (mapAt bot) (k .0) ≡ 0 ⌝ }
+    requires { ⌜ bot .0 + mapBytesFor (mapAt bot) (k .0 + n) ≤ ramBytes ⌝ }
+    requires { ⌜ code < radix (mapAt bot) ⌝ }
+    ensures { λ _. ⌜ now (ram .exit) ≡ setCodes (mapAt bot) (now (ram .entry)) (k .0) (replicate n code) ⌝ }
 {
     fill_bytes(map_byte(bot, k), ram, n / PER_BYTE, code);
     if n % PER_BYTE == 0 {
@@ -179,11 +172,11 @@ fn fill_from_even(bot: RamByte, ram: &mut [u8], k: Block, n: u16, code: u8)
 // The blocks from k on before an even one get the code: an odd one alone.
 fn fill_to_even(bot: RamByte, ram: &mut [u8], k: Block, code: u8)
     requires { ⌜ length (now ram) ≡ ramBytes ⌝ }
-    requires { ⌜ mapByte bot (k .0) < ramBytes ⌝ }
-    requires { ⌜ code < radix ⌝ }
-    ensures { λ _. ⌜ now (ram .exit) ≡ setCodes bot (now (ram .entry)) (k .0) (replicate (mapDigit (k .0)) code) ⌝ }
+    requires { ⌜ mapByte (mapAt bot) (k .0) < ramBytes ⌝ }
+    requires { ⌜ code < radix (mapAt bot) ⌝ }
+    ensures { λ _. ⌜ now (ram .exit) ≡ setCodes (mapAt bot) (now (ram .entry)) (k .0) (replicate (toWhole (mapAt bot) (k .0)) code) ⌝ }
 {
-    if k.0 % PER_BYTE == 0 {
+    if to_whole(bot, k) == 0 {
         return;
     }
     set_odd(bot, ram, k, code);
@@ -192,15 +185,15 @@ fn fill_to_even(bot: RamByte, ram: &mut [u8], k: Block, code: u8)
 // n blocks from k on, all of one code.
 fn fill(bot: RamByte, ram: &mut [u8], k: Block, n: u16, code: u8)
     requires { ⌜ length (now ram) ≡ ramBytes ⌝ }
-    requires { ⌜ bot .0 + mapBytesFor (k .0 + n) ≤ ramBytes ⌝ }
-    requires { ⌜ code < radix ⌝ }
-    ensures { λ _. ⌜ now (ram .exit) ≡ setCodes bot (now (ram .entry)) (k .0) (replicate n code) ⌝ }
+    requires { ⌜ bot .0 + mapBytesFor (mapAt bot) (k .0 + n) ≤ ramBytes ⌝ }
+    requires { ⌜ code < radix (mapAt bot) ⌝ }
+    ensures { λ _. ⌜ now (ram .exit) ≡ setCodes (mapAt bot) (now (ram .entry)) (k .0) (replicate n code) ⌝ }
 {
     if n == 0 {
         return;
     }
     fill_to_even(bot, ram, k, code);
-    let odd = k.0 % PER_BYTE;
+    let odd = to_whole(bot, k);
     fill_from_even(bot, ram, further(k, odd), n - odd, code);
 }
 
@@ -208,10 +201,10 @@ fn fill(bot: RamByte, ram: &mut [u8], k: Block, n: u16, code: u8)
 fn set_run(bot: RamByte, ram: &mut [u8], k: Block, n: u16, first: u8, later: u8)
     requires { ⌜ length (now ram) ≡ ramBytes ⌝ }
     requires { ⌜ 0 < n ⌝ }
-    requires { ⌜ mapByte bot (k .0 + (n - 1)) < ramBytes ⌝ }
-    requires { ⌜ first < radix ⌝ }
-    requires { ⌜ later < radix ⌝ }
-    ensures { λ _. ⌜ now (ram .exit) ≡ setCodes bot (now (ram .entry)) (k .0) (first ∷ replicate (n - 1) later) ⌝ }
+    requires { ⌜ mapByte (mapAt bot) (k .0 + (n - 1)) < ramBytes ⌝ }
+    requires { ⌜ first < radix (mapAt bot) ⌝ }
+    requires { ⌜ later < radix (mapAt bot) ⌝ }
+    ensures { λ _. ⌜ now (ram .exit) ≡ setCodes (mapAt bot) (now (ram .entry)) (k .0) (first ∷ replicate (n - 1) later) ⌝ }
 {
     set_code(bot, ram, k, first);
     fill(bot, ram, further(k, 1), n - 1, later);
@@ -240,12 +233,12 @@ fn bytes_alike(from: RamByte, ram: &[u8], n: u16, byte: u8) -> u16
 // How many blocks from an even one on, at most n, have the code: by whole bytes, and then perhaps one more.
 fn blocks_alike(bot: RamByte, ram: &[u8], k: Block, n: u16, code: u8) -> u16
     requires { ⌜ length (now ram) ≡ ramBytes ⌝ }
-    requires { ⌜ mapDigit (k .0) ≡ 0 ⌝ }
-    requires { ⌜ bot .0 + mapBytesFor (k .0 + n) ≤ ramBytes ⌝ }
-    requires { ⌜ code < radix ⌝ }
+    requires { ⌜ mapDigit (mapAt bot) (k .0) ≡ 0 ⌝ }
+    requires { ⌜ bot .0 + mapBytesFor (mapAt bot) (k .0 + n) ≤ ramBytes ⌝ }
+    requires { ⌜ code < radix (mapAt bot) ⌝ }
     ensures { λ r. ⌜ r ≤ n ⌝ }
-    ensures { λ r. ⌜ ((j : ℕ) → k .0 ≤ j → j < k .0 + r → codeOf bot (now (ram .entry)) j ≡ code) ⌝ }
-    ensures { λ r. ⌜ (r < n → codeOf bot (now (ram .entry)) (k .0 + r) ≢ code) ⌝ }
+    ensures { λ r. ⌜ ((j : ℕ) → k .0 ≤ j → j < k .0 + r → codeOf (mapAt bot) (now (ram .entry)) j ≡ code) ⌝ }
+    ensures { λ r. ⌜ (r < n → codeOf (mapAt bot) (now (ram .entry)) (k .0 + r) ≢ code) ⌝ }
 {
     let byte = both(code);
     let alike = bytes_alike(map_byte(bot, k), ram, n / PER_BYTE, byte) * PER_BYTE;
@@ -261,11 +254,11 @@ fn blocks_alike(bot: RamByte, ram: &[u8], k: Block, n: u16, code: u8) -> u16
 // Whether the blocks from k on before an even one have the code: an odd one must, and stand before end.
 fn alike_to_even(bot: RamByte, ram: &[u8], k: Block, end: Block, code: u8) -> bool
     requires { ⌜ length (now ram) ≡ ramBytes ⌝ }
-    requires { ⌜ mapByte bot (k .0) < ramBytes ⌝ }
-    ensures { λ r. ⌜ (r ≡ true → mapDigit (k .0) ≢ 0 → (k .0 ≢ end .0) × (codeOf bot (now (ram .entry)) (k .0) ≡ code)) ⌝ }
-    ensures { λ r. ⌜ (r ≡ false → k .0 ≢ end .0 → codeOf bot (now (ram .entry)) (k .0) ≢ code) ⌝ }
+    requires { ⌜ mapByte (mapAt bot) (k .0) < ramBytes ⌝ }
+    ensures { λ r. ⌜ (r ≡ true → toWhole (mapAt bot) (k .0) ≢ 0 → (k .0 ≢ end .0) × (codeOf (mapAt bot) (now (ram .entry)) (k .0) ≡ code)) ⌝ }
+    ensures { λ r. ⌜ (r ≡ false → k .0 ≢ end .0 → codeOf (mapAt bot) (now (ram .entry)) (k .0) ≢ code) ⌝ }
 {
-    if k.0 % PER_BYTE == 0 {
+    if to_whole(bot, k) == 0 {
         return true;
     }
     if k.0 == end.0 {
@@ -279,24 +272,24 @@ fn segment_blocks(config: Config, ram: &[u8], k: Block, domain: u8) -> u16
     requires { ⌜ length (now ram) ≡ ramBytes ⌝ }
     requires { ⌜ goodConfig config ≡ true ⌝ }
     requires { ⌜ k .0 < safeBlock config ⌝ }
-    requires { ⌜ ownerOf (codeOf (config .bot) (now ram) (k .0)) ≡ domain ⌝ }
-    ensures { λ r. ⌜ r ≡ segmentBlocks config (now (ram .entry)) (k .0) ⌝ }
+    requires { ⌜ ownerOf (layoutOf config) (codeOf (layoutOf config) (now ram) (k .0)) ≡ domain ⌝ }
+    ensures { λ r. ⌜ r ≡ segmentBlocks config (codesOf config (now (ram .entry))) (k .0) ⌝ }
 {
-    let end = block_of(config.bot, config.safe);
-    let later = later_code(domain);
+    let end = block_of(config, config.safe);
+    let later = later_code(config, domain);
     let next = further(k, 1);
     if !alike_to_even(config.bot, ram, next, end, later) {
         return 1;
     }
-    let even = further(next, next.0 % PER_BYTE);
+    let even = further(next, to_whole(config.bot, next));
     even.0 - k.0 + blocks_alike(config.bot, ram, even, end.0 - even.0, later)
 }
 
 // Whether the first block of a byte is the last of n free ones, behind run others.
 fn completes(byte: u8, run: u16, n: u16) -> bool
     requires { ⌜ run < n ⌝ }
-    ensures { λ r. ⌜ (r ≡ true → (run + 1 ≡ n) × (byte % radix ≡ freeCode)) ⌝ }
-    ensures { λ r. ⌜ (r ≡ false → run + 1 ≡ n → byte % radix ≢ freeCode) ⌝ }
+    ensures { λ r. ⌜ (r ≡ true → (run + 1 ≡ n) × (byte % radixBy fourBits ≡ freeCodeBy fourBits)) ⌝ }
+    ensures { λ r. ⌜ (r ≡ false → run + 1 ≡ n → byte % radixBy fourBits ≢ freeCodeBy fourBits) ⌝ }
 {
     if run + 1 != n {
         return false;
@@ -307,8 +300,8 @@ fn completes(byte: u8, run: u16, n: u16) -> bool
 // How many free blocks a byte that is not all free ends with: its second, or none.
 fn free_at_end(byte: u8) -> u16
     ensures { λ r. ⌜ r ≤ 1 ⌝ }
-    ensures { λ r. ⌜ (r ≡ 1 → byte / radix ≡ freeCode) ⌝ }
-    ensures { λ r. ⌜ (r ≡ 0 → byte / radix ≢ freeCode) ⌝ }
+    ensures { λ r. ⌜ (r ≡ 1 → byte / radixBy fourBits ≡ freeCodeBy fourBits) ⌝ }
+    ensures { λ r. ⌜ (r ≡ 0 → byte / radixBy fourBits ≢ freeCodeBy fourBits) ⌝ }
 {
     if byte / RADIX == FREE {
         return 1;
@@ -319,12 +312,12 @@ fn free_at_end(byte: u8) -> u16
 // How many free blocks there are from k on before an even one: an odd one alone.
 fn free_to_even(bot: RamByte, ram: &[u8], k: Block) -> u16
     requires { ⌜ length (now ram) ≡ ramBytes ⌝ }
-    requires { ⌜ mapByte bot (k .0) < ramBytes ⌝ }
-    ensures { λ r. ⌜ r ≤ mapDigit (k .0) ⌝ }
-    ensures { λ r. ⌜ (0 < r → codeOf bot (now (ram .entry)) (k .0) ≡ freeCode) ⌝ }
-    ensures { λ r. ⌜ (r < mapDigit (k .0) → codeOf bot (now (ram .entry)) (k .0) ≢ freeCode) ⌝ }
+    requires { ⌜ mapByte (mapAt bot) (k .0) < ramBytes ⌝ }
+    ensures { λ r. ⌜ r ≤ toWhole (mapAt bot) (k .0) ⌝ }
+    ensures { λ r. ⌜ (0 < r → codeOf (mapAt bot) (now (ram .entry)) (k .0) ≡ freeCode (mapAt bot)) ⌝ }
+    ensures { λ r. ⌜ (r < toWhole (mapAt bot) (k .0) → codeOf (mapAt bot) (now (ram .entry)) (k .0) ≢ freeCode (mapAt bot)) ⌝ }
 {
-    if k.0 % PER_BYTE == 0 {
+    if to_whole(bot, k) == 0 {
         return 0;
     }
     if odd_code(bot, ram, k) == FREE {
@@ -339,14 +332,14 @@ fn lowest_run(config: Config, ram: &[u8], n: u16) -> Found
     requires { ⌜ length (now ram) ≡ ramBytes ⌝ }
     requires { ⌜ goodConfig config ≡ true ⌝ }
     requires { ⌜ 0 < n ⌝ }
-    ensures { λ r. ⌜ r ≡ lowestRun config (now (ram .entry)) n ⌝ }
+    ensures { λ r. ⌜ r ≡ lowestRun config (codesOf config (now (ram .entry))) n ⌝ }
 {
-    let end = block_of(config.bot, config.safe).0;
+    let end = block_of(config, config.safe).0;
     if end < n {
         return Found::Nowhere;
     }
-    let first = block_of(config.bot, config.heap);
-    let even = further(first, first.0 % PER_BYTE);
+    let first = block_of(config, config.heap);
+    let even = further(first, to_whole(config.bot, first));
     let mut run = free_to_even(config.bot, ram, first);
     let mut start = before(even, run);
     let mut at = map_byte(config.bot, even).0 as usize;
@@ -379,9 +372,9 @@ fn lowest_run(config: Config, ram: &[u8], n: u16) -> Found
 // The code of an area's first block, if it has one.
 fn set_first(bot: RamByte, ram: &mut [u8], k: Block, end: Block, code: u8)
     requires { ⌜ length (now ram) ≡ ramBytes ⌝ }
-    requires { ⌜ (k .0 < end .0 → mapByte bot (k .0) < ramBytes) ⌝ }
-    requires { ⌜ code < radix ⌝ }
-    ensures { λ _. ⌜ (k .0 < end .0 → now (ram .exit) ≡ setCode bot (now (ram .entry)) (k .0) code) ⌝ }
+    requires { ⌜ (k .0 < end .0 → mapByte (mapAt bot) (k .0) < ramBytes) ⌝ }
+    requires { ⌜ code < radix (mapAt bot) ⌝ }
+    ensures { λ _. ⌜ (k .0 < end .0 → now (ram .exit) ≡ setCode (mapAt bot) (now (ram .entry)) (k .0) code) ⌝ }
     ensures { λ _. ⌜ (end .0 ≤ k .0 → now (ram .exit) ≡ now (ram .entry)) ⌝ }
 {
     if end.0 <= k.0 {
@@ -395,14 +388,19 @@ fn set_first(bot: RamByte, ram: &mut [u8], k: Block, end: Block, code: u8)
 pub fn set_up_map(config: Config, ram: &mut [u8])
     requires { ⌜ length (now ram) ≡ ramBytes ⌝ }
     requires { ⌜ goodConfig config ≡ true ⌝ }
-    ensures { λ _. ⌜ now (ram .exit) ≡ setUpRam config (now (ram .entry)) ⌝ }
+    ensures { λ _. ⌜ now (ram .exit) ≡ setUpRam (layoutOf config) config (now (ram .entry)) ⌝ }
 {
-    let heap = block_of(config.bot, config.heap);
-    let safe = block_of(config.bot, config.safe);
-    let end = block_of(config.bot, config.top);
-    fill_bytes(config.bot, ram, map_bytes_for(end.0), later_code(TRUSTED));
-    set_even(config.bot, ram, first_block(), start_code(TRUSTED));
+    let heap = block_of(config, config.heap);
+    let safe = block_of(config, config.safe);
+    let end = block_of(config, config.top);
+    fill_bytes(
+        config.bot,
+        ram,
+        map_bytes_for(config, end.0),
+        later_code(config, TRUSTED),
+    );
+    set_even(config.bot, ram, first_block(), start_code(config, TRUSTED));
     fill(config.bot, ram, heap, safe.0 - heap.0, FREE);
-    set_first(config.bot, ram, safe, end, start_code(TRUSTED));
-    fill(config.bot, ram, end, end.0 % PER_BYTE, FREE);
+    set_first(config.bot, ram, safe, end, start_code(config, TRUSTED));
+    fill(config.bot, ram, end, to_whole(config.bot, end), FREE);
 }

@@ -18,7 +18,7 @@ use Rattle.rules.specs.Memory.{layoutOf, blockOf, heapBlock, codesOf, ownerOf, 
 use Rattle.rules.specs.State.{ramByte}
 use Rattle.rules.specs.Store.{ownerAt, storeRows}
 use Rattle.laws.proofs.Blocks.{start-add, start-from, block-from, block-before}
-use Rattle.laws.proofs.Codes.{module-domain, domain-by, ownerOf-later}
+use Rattle.laws.proofs.Codes.{module-domain, domain-at, ownerOf-later}
 use Rattle.laws.proofs.Good.{GoodConfig, in-heap}
 use Rattle.promises.specs.History.{Asked, History, _then_, after, stateOf, ramOf, configOf, domainOf, answerTo, byteAt, StoredBy, Assumed, Stretch, none, next}
 use Rattle.promises.specs.Ledger.{Segment, booked, ledger, firstBlock, endBlock, InSegment, HeapSegment}
@@ -74,7 +74,7 @@ module _ (s : State) (ram : List ℕ) (gs : List Segment) (ks : List OpenCall) (
         | no n ↦
             ap (ownerOf (layoutOf c)) (member-later c (codesOf c ram) (heapBlock c) gs (i .row) (i .heap) g m k (omega arith) u)
             ∙ ownerOf-later (layoutOf c) (g .owner)
-            (domain-by c (g .owner) (module-domain c (g .owner) (row-in-heap c (heapBlock c) gs (i .row) g m .byModule)))
+            (domain-at c (g .owner) (module-domain c (g .owner) (row-in-heap c (heapBlock c) gs (i .row) g m .byModule)))
       ]
 
   place-of : (g : Segment) → g ∈ gs → (a : RamByte) → InSegment (s .config) g (a .0) → (s .config .heap .0 ≤ a .0) × (a .0 < s .config .safe .0)

@@ -22,7 +22,7 @@ use Rattle.rules.specs.Operations.{Lent, operationOf}
 use Rattle.laws.proofs.Tests.{each}
 use Rattle.laws.proofs.Rows.{passed}
 use Rattle.laws.proofs.AllBelow.{AllBelow, all-replicate}
-use Rattle.laws.proofs.Codes.{module-domain, domain-by, freeCode-lt, length-segmentCodes, segmentCodes-below}
+use Rattle.laws.proofs.Codes.{module-domain, domain-at, freeCode-lt, length-segmentCodes, segmentCodes-below}
 use Rattle.laws.proofs.Good.{GoodConfig, bot<heap, from-heap, to-safe}
 use Rattle.promises.specs.Ledger.{Segment, replacedAt, struck, madeOver, firstBlock, HeapSegment, codeBy}
 use Rattle.promises.specs.Calls.{OpenCall}
@@ -149,5 +149,5 @@ module _ (s : State) (ram : List ℕ) (gs : List Segment) (ks : List OpenCall) (
       let (own, m) = changed-own s (codesOf c ram) a d v e in
       plain s ram gs ks (Change a d) (doneBy s ram (Change a d) v)
       (replace-keeps (madeOver d) (segmentCodes (layoutOf c) d) a (segment-at a (own .segment)) (over-place c d m)
-      (length-segmentCodes (layoutOf c) d) (λ n. segmentCodes-below (layoutOf c) d n (domain-by c d (module-domain c d m)))
+      (length-segmentCodes (layoutOf c) d) (λ n. segmentCodes-below (layoutOf c) d n (domain-at c d (module-domain c d m)))
       (λ g i u. code-segment c (record { address = g .address; blocks = g .blocks; owner = d }) [] i u)))

@@ -23,7 +23,7 @@ use Rattle.rules.specs.Malloc.{lowestRun, roomFor, nowhere, addressOf, taken}
 use Rattle.rules.specs.Operations.{Lent, operationOf}
 use Rattle.laws.proofs.Rows.{passed}
 use Rattle.laws.proofs.Blocks.{block-start, blocksFor-pos}
-use Rattle.laws.proofs.Codes.{domain-module, domain-by, length-segmentCodes, segmentCodes-below}
+use Rattle.laws.proofs.Codes.{domain-module, domain-at, length-segmentCodes, segmentCodes-below}
 use Rattle.laws.proofs.Search.{found, found-in-heap, free-run-at, free-block}
 use Rattle.promises.specs.Ledger.{Segment, entered, firstBlock, HeapSegment}
 use Rattle.promises.specs.Calls.{OpenCall, domainLeft}
@@ -62,7 +62,7 @@ module _ (s : State) (ram : List ℕ) (gs : List Segment) (ks : List OpenCall) (
       sym (h .heap k (omega arith) (omega arith)) ∙ free) in
       subst (λ (k : ℕ). Keeps s ram s (setCodes (layoutOf c) ram k vs) (entered g gs) ks) q
       (write-codes s ram gs ks h (firstBlock c g) vs (entered g gs) (omega arith) (omega arith)
-      (segmentCodes-below (layoutOf c) (s .domain) n (domain-by c (s .domain) (h .good .domain))) row
+      (segmentCodes-below (layoutOf c) (s .domain) n (domain-at c (s .domain) (h .good .domain))) row
       (λ i t. coded (firstBlock c g + i) ∙ code-segment c g gs i (omega arith))
       (λ j out. coded j ∙ code-past c g gs j p (λ t. omega (arith, out t))))
 

@@ -15,7 +15,7 @@ use Rattle.rules.specs.declared.Config.{Config}
 use Rattle.rules.specs.Memory.{layoutOf, startCode, laterCode, freeCode, startsSegment, segmentCodes, isDomain, isModule}
 use Rattle.laws.proofs.Tests.{byTest, both, and-true}
 use Rattle.laws.proofs.Blocks.{start-mono, start-lt, blockBytes-pos}
-use Rattle.laws.proofs.Codes.{module-domain, domain-by, module-by, start≢free, start≢later, later≢free, starts-later, starts-free, getD-segmentCodes-first, getD-segmentCodes-later}
+use Rattle.laws.proofs.Codes.{module-domain, domain-at, module-at, start≢free, start≢later, later≢free, starts-later, starts-free, getD-segmentCodes-first, getD-segmentCodes-later}
 use Rattle.promises.specs.Ledger.{Segment, entered, replacedAt, struck, madeOver, firstBlock, endBlock, HeapSegment, Apart, codeBy}
 use Rattle.promises.specs.Promise.{_∈_}
 
@@ -111,8 +111,8 @@ module _ (c : Config) where
       → codeBy c (g ∷ gs) k ≢ freeCode (layoutOf c)
   code-held g gs k m l u e =
       elim (ℕ-discrete k (firstBlock c g)) [
-        | yes q ↦ start≢free (layoutOf c) (g .owner) (module-by c (g .owner) m) (sym (code-first g gs k q) ∙ e)
-        | no n ↦ later≢free (layoutOf c) (g .owner) (domain-by c (g .owner) (module-domain c (g .owner) m)) (sym (code-later g gs k (omega arith) u) ∙ e)
+        | yes q ↦ start≢free (layoutOf c) (g .owner) (module-at c (g .owner) m) (sym (code-first g gs k q) ∙ e)
+        | no n ↦ later≢free (layoutOf c) (g .owner) (domain-at c (g .owner) (module-domain c (g .owner) m)) (sym (code-later g gs k (omega arith) u) ∙ e)
       ]
 
   -- ---- blocks and addresses of segments
@@ -146,7 +146,7 @@ module _ (c : Config) where
           (
             r .0,
             byTest (ltb (firstBlock c f) (endBlock c g))
-                (λ u. absurd (start≢free (layoutOf c) (f .owner) (module-by c (f .owner) (r .0 .byModule))
+                (λ u. absurd (start≢free (layoutOf c) (f .owner) (module-at c (f .owner) (r .0 .byModule))
                 (sym (code-first f fs (firstBlock c f) refl) ∙ free (firstBlock c f) (omega arith) (ltb-true _ _ u))))
                 (λ u. ltb-false _ _ u),
             r .2,
@@ -197,13 +197,13 @@ module _ (c : Config) where
 
   -- where the row may begin, nothing goes on
   code-edge : (lo : ℕ) (gs : List Segment) → Row lo gs → (d : ℕ) → isDomain c d ≡ true → codeBy c gs lo ≢ laterCode (layoutOf c) d
-  code-edge lo [] r d w e = later≢free (layoutOf c) d (domain-by c d w) (sym e ∙ code-none lo)
+  code-edge lo [] r d w e = later≢free (layoutOf c) d (domain-at c d w) (sym e ∙ code-none lo)
   code-edge lo (g ∷ gs) r d w e =
       elim (ℕ-discrete lo (firstBlock c g)) [
         | yes q ↦ start≢later (layoutOf c) (g .owner) d (sym (code-first g gs lo q) ∙ e)
         | no n ↦
             let l : lo < firstBlock c g = omega (arith, r .1) in
-            later≢free (layoutOf c) d (domain-by c d w)
+            later≢free (layoutOf c) d (domain-at c d w)
             (sym e ∙ code-past g gs lo (r .0 .some) (λ h. absurd (omega arith)) ∙ code-below (endBlock c g) gs (r .2) lo (omega arith))
       ]
 

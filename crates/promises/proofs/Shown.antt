@@ -10,7 +10,7 @@ use native.Mathlib.Decide.{ℕ-discrete}
 use Rattle.rules.specs.declared.Config.{Config}
 use Rattle.rules.specs.Memory.{layoutOf, startOf, heapBlock, safeBlock, Codes, startCode, laterCode, freeCode, ownerOf, startsSegment, isDomain}
 use Rattle.rules.specs.Free.{segmentBlocks}
-use Rattle.laws.proofs.Codes.{module-domain, domain-by, module-by, ownerOf-start, starts-start, starts-later, starts-free}
+use Rattle.laws.proofs.Codes.{module-domain, domain-at, module-at, ownerOf-start, starts-start, starts-later, starts-free}
 use Rattle.laws.proofs.Segments.{segment-is}
 use Rattle.promises.specs.Ledger.{Segment, firstBlock, endBlock, HeapSegment, codeBy, segmentAt, shownFrom, shown}
 use Rattle.promises.specs.Promise.{_∈_}
@@ -36,7 +36,7 @@ module _ (c : Config) (codes : Codes) where
     member-domain = module-domain c (g .owner) (row-in-heap c lo gs row g m .byModule)
 
     pub member-owner : ownerOf (layoutOf c) (codes (firstBlock c g)) ≡ g .owner
-    member-owner = ap (ownerOf (layoutOf c)) member-first ∙ ownerOf-start (layoutOf c) (g .owner) (domain-by c (g .owner) member-domain)
+    member-owner = ap (ownerOf (layoutOf c)) member-first ∙ ownerOf-start (layoutOf c) (g .owner) (domain-at c (g .owner) member-domain)
 
     pub member-later : (k : ℕ) → firstBlock c g < k → k < endBlock c g → codes k ≡ laterCode (layoutOf c) (g .owner)
     member-later k l u =
@@ -90,7 +90,7 @@ module _ (c : Config) (codes : Codes) where
             elim (ℕ-discrete k (firstBlock c g)) [
               | yes f ↦
                   let first : startsSegment (layoutOf c) (codes k) ≡ true =
-                  rw f (ap (startsSegment (layoutOf c)) (member-first lo (g ∷ gs) row same g (inl refl)) ∙ starts-start (layoutOf c) (g .owner) (module-by c (g .owner) (row .0 .byModule))) in
+                  rw f (ap (startsSegment (layoutOf c)) (member-first lo (g ∷ gs) row same g (inl refl)) ∙ starts-start (layoutOf c) (g .owner) (module-at c (g .owner) (row .0 .byModule))) in
                   let place : startOf c k ≡ g .address = rw f (row .0 .atBlock) in
                   let count : segmentBlocks c codes k ≡ g .blocks = rw f (member-blocks lo (g ∷ gs) row same g (inl refl)) in
                   let whose : ownerOf (layoutOf c) (codes k) ≡ g .owner = rw f (member-owner lo (g ∷ gs) row same g (inl refl)) in

@@ -1,7 +1,7 @@
--- `hmt_c::slot::range_at` meets its contract. Assumes nothing.
+-- `codec::config::range_at` meets its contract. Assumes nothing.
 use borrow.Author.Needs.{needs}
-use Rattle.hmt_c.proofs.slot.range_at.Statement.{statement}
-use Rattle.hmt_c.proofs.slot.range_at.Tie as tie
+use Rattle.codec.proofs.config.range_at.Statement.{statement}
+use Rattle.codec.proofs.config.range_at.Tie as tie
 
 flash-word-at-requires : tie.Need-flash-word-at-requires
 flash-word-at-requires c κs = search needs
@@ -13,7 +13,7 @@ flash-word-at-requires-2 : tie.Need-flash-word-at-requires-2
 flash-word-at-requires-2 c κs = search needs
 
 returns : tie.Need-returns
-returns c = rw (c .before .flash-word-at .ensures, c .flash-word-at2 .ensures)
+returns c = cc
 
 pub range-at-spec : {M : Type 1} → statement M
 range-at-spec =

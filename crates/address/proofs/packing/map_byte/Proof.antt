@@ -1,10 +1,10 @@
--- `map::map_byte` meets its contract. Assumes nothing.
+-- `address::packing::map_byte` meets its contract. Assumes nothing.
 use mathlib.Core.Path.{ap}
 use native.Mathlib.Omega.{arith}
 use Rattle.rules.specs.declared.RamByte.{RamByte}
 use Rattle.rules.specs.Memory.{mapByte, perByte}
-use Rattle.map.proofs.map_byte.Statement.{statement}
-use Rattle.map.proofs.map_byte.Tie as tie
+use Rattle.address.proofs.packing.map_byte.Statement.{statement}
+use Rattle.address.proofs.packing.map_byte.Tie as tie
 
 above-requires : tie.Need-above-requires
 unfolding mapByte perByte
