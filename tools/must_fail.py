@@ -5,8 +5,8 @@ Each must-fail/FOLDER/NAME.edit has lines (others, as '# ..', are passed over):
 
     crate: operations                          the crate that must refuse it
     fact: proofs/free/Proof.antt returns       the declaration that must fail, and the file of that crate that it stands in
-    file: crates/operations/src/lib.rt         holds for the pairs of old and new after it
-    old: ..                                    text that stands there once
+    file: crates/operations/src/lib.rt         holds for the old and new texts after it
+    old: ..                                    text that stands there once; of several lines: each behind an `old:` of its own
     new: ..
 
 An edit that mixes types is refused before a proof is looked at. It has the compiler's words in the place of `fact:`:
@@ -16,10 +16,10 @@ An edit that mixes types is refused before a proof is looked at. It has the comp
 An edit fails if its old text does not stand exactly once, if the crate is still proved, and if it is refused for any other reason than
 facts that are false, the named one among them: where a proof does not fit the code's steps, or a text cannot be read, nothing was shown.
 
-It takes seconds, not the minute that a crate takes from nothing: the library that `rt` wrote of a crate holds every module that was
-checked, and a copy of these is the incremental folder in which the edited crate is checked. What the edit does not reach is taken from
-there. An edited crate below the one named is built anew; the crates between are taken as they were, and the checker checks again what
-the edit reaches in them. So all rests on what `rt ci` proved in the same run of ./test; for a run by hand `rt check` is called first.
+An edit takes seconds, not the minute that a crate takes from nothing: each crate is checked once over an incremental folder, target/inc/CRATE,
+as `rt dev` does, and each edit over a copy of it. An edited crate below the one named is built anew; the crates between are taken as they
+were, and the checker checks again what the edit reaches in them. `rt ci` removes target/, so in ./test all that is taken up so was checked
+in the same run. By hand, what has changed since is checked first.
 
 --facts prints for each edit all facts at which it is refused. The last line is 'must-fail: N passed, M failed'."""
 import glob
@@ -36,16 +36,17 @@ from concurrent.futures import ThreadPoolExecutor
 ROOT = os.path.dirname(os.path.dirname(os.path.abspath(__file__)))
 PARTS = ("src", "specs", "proofs")
 # what the checker says where a proof does not fit the code, and not that a fact is false
-UNFIT = re.compile(r"has no |no proof|not in scope|unknown|expected .* arguments|cannot be named|parse")
+UNFIT = re.compile(r"has no |not in scope|cannot be named")
 
 
 class Edit:
     def __init__(self, path):
         self.path, self.crate, self.fact, self.types, self.pairs = path, None, None, None, []
-        file = old = None
+        file = last = None
         with open(path, encoding="utf-8") as lines:
             for line in lines:
-                key, _, rest = line.rstrip("\n").partition(": ")
+                key, _, rest = line.rstrip("\n").partition(":")
+                rest = rest[1:]
                 if key == "crate":
                     self.crate = rest
                 elif key == "fact":
@@ -54,16 +55,22 @@ class Edit:
                     self.types = rest
                 elif key == "file":
                     file = rest
+                elif key == last:
+                    self.pairs[-1][key] += "\n" + rest
                 elif key == "old":
-                    old = rest
-                elif key in ("new", "new:"):
-                    self.pairs.append((file, old, rest))
-        if not self.crate or bool(self.fact) == bool(self.types) or not self.pairs or not all(f and o for f, o, _ in self.pairs):
-            raise ValueError("it lacks a crate, a fact (or a type), or a file with an old and a new text")
-        self.changed = {file.split("/")[1] for file, _, _ in self.pairs}
+                    self.pairs.append({"file": file, "old": rest, "new": None})
+                elif key == "new" and self.pairs:
+                    self.pairs[-1]["new"] = rest
+                last = key if key in ("old", "new") else None
+        if not self.crate or bool(self.fact) == bool(self.types) or not self.pairs:
+            raise ValueError("it lacks a crate, a fact or a type, or a text to replace")
+        if not all(pair["file"] and pair["old"] and pair["new"] is not None for pair in self.pairs):
+            raise ValueError("each old text needs a file above it and a new text below it")
+        self.changed = {pair["file"].split("/")[1] for pair in self.pairs}
 
     def apply(self, folder):
-        for file, old, new in self.pairs:
+        for pair in self.pairs:
+            file, old, new = pair["file"], pair["old"], pair["new"]
             path = os.path.join(folder, file)
             if not os.path.isfile(path):
                 raise ValueError(f"it does not fit: there is no {file}")
@@ -104,13 +111,13 @@ def rattle(verb, crate, folder, *words):
     return run.returncode, run.stdout + run.stderr
 
 
-def incremental(crate, folder):
-    """The modules of a crate that rt checked, as a folder that the checker takes up and writes to."""
-    checked = os.path.join(ROOT, "target/rlib", f"{crate}.rlib", "toolchain/checked")
-    with open(os.path.join(checked, f"Rattle.{crate}.oantt"), "rb") as module:
-        kernel = re.search(rb"^--@ kernel (\S+)$", module.read(1000), re.M).group(1).decode()
-    shutil.copytree(checked, os.path.join(folder, kernel.replace("/", "_")))
-    return folder
+def prepare(crate):
+    """Check a crate over its incremental folder, as `rt dev` does; what is wrong with it, or nothing."""
+    os.makedirs(os.path.join(ROOT, "target/inc", crate), exist_ok=True)
+    began = time.monotonic()
+    status, text = rattle("check", crate, ROOT, "--incremental", f"target/inc/{crate}")
+    print(f"must-fail {crate}/: its incremental folder is {'FAILED' if status else 'there'} ({time.monotonic() - began:.0f} s)", flush=True)
+    return text if status else ""
 
 
 def check(edit, folder):
@@ -128,22 +135,27 @@ def check(edit, folder):
                 return crate, status, text
         else:
             os.symlink(os.path.join(ROOT, "target/rlib", f"{crate}.rlib"), os.path.join(folder, "target/rlib", f"{crate}.rlib"))
-    return edit.crate, *rattle("check", edit.crate, folder, "--incremental", incremental(edit.crate, os.path.join(folder, "target/inc")))
+    shutil.copytree(os.path.join(ROOT, "target/inc", edit.crate), os.path.join(folder, "target/inc"))
+    return edit.crate, *rattle("check", edit.crate, folder, "--incremental", "target/inc")
 
 
 def facts(text):
-    """The facts that are refused in what the checker printed, and what else it refuses. What only waits for another fact is not counted."""
+    """The facts that are refused in what the checker printed, as 'CRATE: FILE NAME', and what else it refuses. What only waits for another
+    fact is not counted. Where a function has no proof file, the facts are those that `search` does not close."""
     found, other = [], []
     for place, what in re.findall(r"^(\S+?):\d+:\d+: error(?:\[[\w-]+\])?: (.*)$", text, re.M):
         named = re.match(r"(?:in )?`([^`]+)`:? ?(.*)$", what)
         if named and re.match(r"`[^`]+` was not admitted", named.group(2)):
             continue
         if named and not UNFIT.search(named.group(2)):
-            found.append(re.sub(r"^crates/(\w+)/", r"\1: ", place) + " " + named.group(1))
+            found.append(f"{place} {named.group(1)}")
         else:
             other.append(f"{place}: {what[:200]}")
-    other += re.findall(r"^fn .*: no proof$", text, re.M)
-    return list(dict.fromkeys(found)), other
+    for function, place, why in re.findall(r"^fn (\S+): no proof: expected `[^`]+` in (\S+?);? (.*)$", text, re.M):
+        names = re.findall(r"`([^`]+)`", why.partition("`search` does not close ")[2])
+        found += [f"{place} {name}" for name in names]
+        other += [] if names else [f"{function}: no proof, {why[:200]}"]
+    return list(dict.fromkeys(re.sub(r"^\S*crates/(\w+)/", r"\1: ", fact) for fact in found)), other
 
 
 def judge(edit, crate, status, text):
@@ -191,6 +203,10 @@ def main():
         print(base.stdout[-2000:] + base.stderr, "must-fail: 0 passed, 1 failed", sep="\n")
         return 1
     with ThreadPoolExecutor(max_workers=2) as pool:
+        wrong = "".join(pool.map(prepare, crates))
+        if wrong:
+            print(wrong[-2000:], "must-fail: 0 passed, 1 failed", sep="\n")
+            return 1
         good = list(pool.map(lambda path: tried(path, show), paths))
     print(f"must-fail: {sum(good)} passed, {len(good) - sum(good)} failed")
     return 0 if all(good) else 1
