@@ -14,7 +14,8 @@ An edit that mixes types is refused before a proof is looked at. It has the comp
     type: expected `RamByte`, found `FlashWord`
 
 An edit fails if its old text does not stand exactly once, if the crate is still proved, and if it is refused for any other reason than
-facts that are false, the named one among them: where a proof does not fit the code's steps, or a text cannot be read, nothing was shown.
+facts of that crate that are false, the named one among them: where a proof does not fit the code's steps, or a text cannot be read, nothing
+was shown.
 
 An edit takes seconds, not the minute that a crate takes from nothing: each crate is checked once over an incremental folder, target/inc/CRATE,
 as `rt dev` does, and each edit over a copy of it. An edited crate below the one named is built anew; the crates between are taken as they
@@ -22,6 +23,7 @@ were, and the checker checks again what the edit reaches in them. `rt ci` remove
 in the same run. By hand, what has changed since is checked first.
 
 --facts prints for each edit all facts at which it is refused. The last line is 'must-fail: N passed, M failed'."""
+import functools
 import glob
 import os
 import platform
@@ -63,9 +65,9 @@ class Edit:
                     self.pairs[-1]["new"] = rest
                 last = key if key in ("old", "new") else None
         if not self.crate or bool(self.fact) == bool(self.types) or not self.pairs:
-            raise ValueError("it lacks a crate, a fact or a type, or a text to replace")
+            raise ValueError(f"{path} lacks a crate, a fact or a type, or a text to replace")
         if not all(pair["file"] and pair["old"] and pair["new"] is not None for pair in self.pairs):
-            raise ValueError("each old text needs a file above it and a new text below it")
+            raise ValueError(f"{path}: each old text needs a file above it and a new text below it")
         self.changed = {pair["file"].split("/")[1] for pair in self.pairs}
 
     def apply(self, folder):
@@ -99,14 +101,21 @@ def below(crate):
     return found + [crate]
 
 
+@functools.lru_cache(1)
+def kit():
+    """The folder of the Rattle kit, and what is in it for this machine."""
+    guide = subprocess.run(["rt", "doc"], capture_output=True, text=True, check=True).stdout
+    home = os.path.dirname(os.path.dirname(guide))
+    return home, os.path.join(home, "on", platform.machine())
+
+
 def rattle(verb, crate, folder, *words):
     """Check or build a crate of a folder as rt does; the exit status, and what was printed."""
-    kit = os.path.dirname(os.path.dirname(subprocess.run(["rt", "doc"], capture_output=True, text=True, check=True).stdout))
-    own = os.path.join(kit, "on", platform.machine())
+    home, own = kit()
     command = [f"{own}/bin/rattle", verb, "--crate-name", crate, f"crates/{crate}/src/lib.rt", "--extern", f"std={own}/rlib/std.rlib"]
     for name in DEPS[crate]:
         command += ["--extern", f"{name}={'target' if name in DEPS else own}/rlib/{name}.rlib"]
-    command += ["-L", "dependency=target/rlib", "-L", f"dependency={own}/rlib", "--antt-project", f"{kit}/logic/antt-project.json"]
+    command += ["-L", "dependency=target/rlib", "-L", f"dependency={own}/rlib", "--antt-project", f"{home}/logic/antt-project.json"]
     run = subprocess.run([*command, "--logic-built", f"{own}/logic-built", *words], cwd=folder, capture_output=True, text=True)
     return run.returncode, run.stdout + run.stderr
 
@@ -121,7 +130,7 @@ def prepare(crate):
 
 
 def check(edit, folder):
-    """Check the edited crates in a folder of their own: the crate that ended it, the exit status and what was printed."""
+    """Check the edited crates in a folder of their own: the exit status, and what was printed."""
     for crate in edit.changed | {edit.crate}:
         for part in PARTS:
             if os.path.isdir(os.path.join(ROOT, "crates", crate, part)):
@@ -132,11 +141,11 @@ def check(edit, folder):
         if crate in edit.changed:
             status, text = rattle("build", crate, folder, "-o", f"target/rlib/{crate}.rlib")
             if status:
-                return crate, status, text
+                return status, text
         else:
             os.symlink(os.path.join(ROOT, "target/rlib", f"{crate}.rlib"), os.path.join(folder, "target/rlib", f"{crate}.rlib"))
     shutil.copytree(os.path.join(ROOT, "target/inc", edit.crate), os.path.join(folder, "target/inc"))
-    return edit.crate, *rattle("check", edit.crate, folder, "--incremental", "target/inc")
+    return rattle("check", edit.crate, folder, "--incremental", "target/inc")
 
 
 def facts(text):
@@ -159,7 +168,7 @@ def facts(text):
     return list(dict.fromkeys(re.sub(r"^\S*crates/(\w+)/", r"\1: ", fact) for fact in found)), other
 
 
-def judge(edit, crate, status, text):
+def judge(edit, status, text):
     """Why the edit is refused as it must be, or raise ValueError with what is wrong."""
     if status == 0:
         raise ValueError(f"NOT REFUSED: {edit.crate} is still proved")
@@ -173,42 +182,49 @@ def judge(edit, crate, status, text):
     listed = "; ".join(found) or "no fact"
     if other:
         raise ValueError(f"refused for another reason than a fact: {' | '.join(other)}; and at {listed}")
-    if crate != edit.crate or f"{crate}: {edit.fact}" not in found:
-        raise ValueError(f"refused at {listed}, and not at {edit.crate}: {edit.fact}")
+    if f"{edit.crate}: {edit.fact}" not in found or not all(fact.startswith(f"{edit.crate}: ") for fact in found):
+        raise ValueError(f"refused at {listed}, and not at {edit.crate}: {edit.fact}, and in no other crate")
     return f"at {edit.fact}"
 
 
 def tried(path, show):
-    began = time.monotonic()
+    began, text = time.monotonic(), ""
     name = os.path.relpath(os.path.abspath(path), os.path.join(ROOT, "must-fail"))[: -len(".edit")]
     try:
         edit = Edit(path)
         with tempfile.TemporaryDirectory() as folder:
-            crate, status, text = check(edit, folder)
-        why, good = f"refused, as it must be, by {edit.crate} {judge(edit, crate, status, text)}", True
+            status, text = check(edit, folder)
+        why, good = f"refused, as it must be, by {edit.crate} {judge(edit, status, text)}", True
     except (ValueError, OSError) as wrong:
-        why, good, text = f"FAILED: {wrong}", False, locals().get("text", "")
-    print(f"must-fail {name}: {why} ({time.monotonic() - began:.0f} s)", flush=True)
-    if show:
-        print("".join(f"    {fact}\n" for fact in facts(text)[0]), end="", flush=True)
+        why, good = f"FAILED: {wrong}", False
+    listed = "".join(f"\n    {fact}" for fact in facts(text)[0]) if show else ""
+    print(f"must-fail {name}: {why} ({time.monotonic() - began:.0f} s){listed}", flush=True)
     return good
+
+
+def failed(text):
+    print(text[-2000:], "must-fail: 0 passed, 1 failed", sep="\n")
+    return 1
 
 
 def main():
     began = time.monotonic()
-    words = sys.argv[1:]
-    show = "--facts" in words
-    paths = [word for word in words if word != "--facts"] or sorted(glob.glob(os.path.join(ROOT, "must-fail/*/*.edit")))
-    crates = sorted({crate for path in paths for crate in re.findall(r"^crate: (\w+)$", open(path, encoding="utf-8").read(), re.M)})
+    show = "--facts" in sys.argv
+    paths = [word for word in sys.argv[1:] if word != "--facts"] or sorted(glob.glob(os.path.join(ROOT, "must-fail/*/*.edit")))
+    try:
+        refusing = {path: Edit(path).crate for path in paths}
+    except (ValueError, OSError) as wrong:
+        return failed(str(wrong))
+    # those that take longest first
+    crates = sorted(set(refusing.values()), key=lambda crate: (-len(below(crate)), crate))
+    paths.sort(key=lambda path: crates.index(refusing[path]))
     base = subprocess.run(["rt", "check", *crates], cwd=ROOT, capture_output=True, text=True)
     if base.returncode:
-        print(base.stdout[-2000:] + base.stderr, "must-fail: 0 passed, 1 failed", sep="\n")
-        return 1
+        return failed(base.stdout + base.stderr)
     with ThreadPoolExecutor(max_workers=2) as pool:
         wrong = "".join(pool.map(prepare, crates))
         if wrong:
-            print(wrong[-2000:], "must-fail: 0 passed, 1 failed", sep="\n")
-            return 1
+            return failed(wrong)
         good = list(pool.map(lambda path: tried(path, show), paths))
     print(f"must-fail: from start to end ({time.monotonic() - began:.0f} s)")
     print(f"must-fail: {sum(good)} passed, {len(good) - sum(good)} failed")

@@ -497,6 +497,7 @@ class MustFail(unittest.TestCase):
         f"{ONE}:3:5: error: `returns-2`: the two types differ": "refused at one: proofs/eight/Proof.antt returns-2, and not at",
         f"{ONE.replace('eight', 'nine')}:3:5: error: `returns`: the two types differ": "refused at one: proofs/nine/Proof.antt returns, and not at",
         f"{ONE.replace('one', 'two')}:3:5: error: `returns`: the two types differ": "refused at two: proofs/eight/Proof.antt returns, and not at",
+        f"{ONE}:3:5: error: `returns`: the two types differ\n{ONE.replace('one', 'two')}:3:5: error: `law`: the two types differ": "in no other crate",
         f"{ONE}:9:1: error: `returns`: `other` was not admitted (it was rejected)": "refused at no fact",
         f"{ONE}:3:5: error: `returns`: `if2` has no field `taken`": "for another reason than a fact",
         f"{ONE}:3:5: error: `returns`: the two types differ\n{ONE}:4:5: error: expected a term": "for another reason than a fact",
@@ -515,11 +516,11 @@ class MustFail(unittest.TestCase):
         for text, why in self.PRINTED.items():
             with self.subTest(text=text):
                 if why:
-                    self.assertRaisesRegex(ValueError, why, must_fail.judge, edit, "one", 1, text + "\nlogic=not-proved\n")
+                    self.assertRaisesRegex(ValueError, why, must_fail.judge, edit, 1, text + "\nlogic=not-proved\n")
                 else:
-                    self.assertEqual(must_fail.judge(edit, "one", 1, text + "\nlogic=not-proved\n"), "at proofs/eight/Proof.antt returns")
+                    self.assertEqual(must_fail.judge(edit, 1, text + "\nlogic=not-proved\n"), "at proofs/eight/Proof.antt returns")
         for status, text, why in ((0, "logic=proved", "NOT REFUSED"), (1, "a.rt:1:2: error: expected `;`", "did not reach"), (3, "no verdict", "did not reach")):
-            self.assertRaisesRegex(ValueError, why, must_fail.judge, edit, "one", status, text)
+            self.assertRaisesRegex(ValueError, why, must_fail.judge, edit, status, text)
 
     def test_edits_of_a_small_crate(self):
         with tempfile.TemporaryDirectory() as folder:
