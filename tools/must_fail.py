@@ -161,7 +161,7 @@ def facts(text):
         else:
             other.append(f"{place}: {what[:200]}")
     for function, place, why in re.findall(r"^fn (\S+): no proof: expected `[^`]+` in (\S+?);? (.*)$", text, re.M):
-        if not re.match("it calls .*, which is not proved", why):
+        if not re.match("it calls .*, which (is|are) not proved", why):
             names = re.findall(r"`([^`]+)`", why.partition("`search` does not close ")[2])
             found += [f"{place} {name}" for name in names]
             other += [] if names else [f"{function}: no proof, {why[:200]}"]
