@@ -22,7 +22,7 @@ as `rt dev` does, and each edit over a copy of it. An edited crate below the one
 were, and the checker checks again what the edit reaches in them. `rt ci` removes target/, so in ./test all that is taken up so was checked
 in the same run. By hand, what has changed since is checked first.
 
---facts prints for each edit all facts at which it is refused. The last line is 'must-fail: N passed, M failed'."""
+--facts prints for each edit all facts at which it is refused. Two are tried at a time, or as many as RT_JOBS says. The last line is 'must-fail: N passed, M failed'."""
 import functools
 import glob
 import os
@@ -144,7 +144,8 @@ def check(edit, folder):
                 return status, text
         else:
             os.symlink(os.path.join(ROOT, "target/rlib", f"{crate}.rlib"), os.path.join(folder, "target/rlib", f"{crate}.rlib"))
-    shutil.copytree(os.path.join(ROOT, "target/inc", edit.crate), os.path.join(folder, "target/inc"))
+    # by links: the checker replaces a file and never writes into one
+    shutil.copytree(os.path.join(ROOT, "target/inc", edit.crate), os.path.join(folder, "target/inc"), copy_function=os.link)
     return rattle("check", edit.crate, folder, "--incremental", "target/inc")
 
 
@@ -192,7 +193,7 @@ def tried(path, show):
     name = os.path.relpath(os.path.abspath(path), os.path.join(ROOT, "must-fail"))[: -len(".edit")]
     try:
         edit = Edit(path)
-        with tempfile.TemporaryDirectory() as folder:
+        with tempfile.TemporaryDirectory(dir=os.path.join(ROOT, "target")) as folder:
             status, text = check(edit, folder)
         why, good = f"refused, as it must be, by {edit.crate} {judge(edit, status, text)}", True
     except (ValueError, OSError) as wrong:
@@ -221,7 +222,7 @@ def main():
     base = subprocess.run(["rt", "check", *crates], cwd=ROOT, capture_output=True, text=True)
     if base.returncode:
         return failed(base.stdout + base.stderr)
-    with ThreadPoolExecutor(max_workers=2) as pool:
+    with ThreadPoolExecutor(int(os.environ.get("RT_JOBS", 2))) as pool:
         wrong = "".join(pool.map(prepare, crates))
         if wrong:
             return failed(wrong)
