@@ -15,14 +15,15 @@ An edit that mixes types is refused before a proof is looked at. It has the comp
 
 An edit fails if its old text does not stand exactly once, if the crate is still proved, and if it is refused for any other reason than
 facts of that crate that are false, the named one among them: where a proof does not fit the code's steps, or a text cannot be read, nothing
-was shown.
+was shown. Nor is it by an edit of a proof alone: one may stand beside an edit of code or specs, to fit it.
 
 An edit takes seconds, not the minute that a crate takes from nothing: each crate is checked once over an incremental folder, target/inc/CRATE,
 as `rt dev` does, and each edit over a copy of it. An edited crate below the one named is built anew; the crates between are taken as they
 were, and the checker checks again what the edit reaches in them. `rt ci` removes target/, so in ./test all that is taken up so was checked
 in the same run. By hand, what has changed since is checked first.
 
---facts prints for each edit all facts at which it is refused. Two are tried at a time, or as many as RT_JOBS says. The last line is 'must-fail: N passed, M failed'."""
+--facts prints for each edit all facts at which it is refused. Two are tried at a time, or as many as RT_JOBS says. The last line is
+'must-fail: N passed, M failed'."""
 import functools
 import glob
 import os
@@ -68,6 +69,8 @@ class Edit:
             raise ValueError(f"{path} lacks a crate, a fact or a type, or a text to replace")
         if not all(pair["file"] and pair["old"] and pair["new"] is not None for pair in self.pairs):
             raise ValueError(f"{path}: each old text needs a file above it and a new text below it")
+        if not any(re.match(r"crates/\w+/(src|specs)/", pair["file"]) for pair in self.pairs):
+            raise ValueError(f"{path} changes neither code nor specs")
         self.changed = {pair["file"].split("/")[1] for pair in self.pairs}
 
     def apply(self, folder):

@@ -513,6 +513,10 @@ class MustFail(unittest.TestCase):
     def test_what_the_checker_prints(self):
         with tempfile.TemporaryDirectory() as folder:
             edit = must_fail.Edit(self.edit(folder, "a", "fact: proofs/eight/Proof.antt returns", "8", "7"))
+            for words, file in (("fact: a b", "proofs/a/Proof.antt"), ("", "src/lib.rt"), ("fact: a b\ntype: c", "src/lib.rt")):
+                path = self.edit(folder, "b", words, "8", "7")
+                Path(path).write_text(Path(path).read_text(encoding="utf-8").replace("src/lib.rt", file), encoding="utf-8")
+                self.assertRaises(ValueError, must_fail.Edit, path)
         for text, why in self.PRINTED.items():
             with self.subTest(text=text):
                 if why:
