@@ -1,5 +1,5 @@
 #!/usr/bin/env python3
-"""must_fail.py [--facts] [EDIT..]: edits that a crate must refuse, each at a fact that the edit makes false.
+"""must_fail.py [--fit | --facts] [EDIT..]: edits that a crate must refuse, each at a fact that the edit makes false.
 
 Each must-fail/FOLDER/NAME.edit has lines (others, as '# ..', are passed over):
 
@@ -22,8 +22,8 @@ as `rt dev` does, and each edit over a copy of it. An edited crate below the one
 were, and the checker checks again what the edit reaches in them. `rt ci` removes target/, so in ./test all that is taken up so was checked
 in the same run. By hand, what has changed since is checked first.
 
---facts prints for each edit all facts at which it is refused. Two are tried at a time, or as many as RT_JOBS says. The last line is
-'must-fail: N passed, M failed'."""
+--fit says only which edits do not fit the present texts, at once. --facts prints for each edit all facts at which it is refused. Two are
+tried at a time, or as many as RT_JOBS says. The last line is 'must-fail: N passed, M failed'."""
 import functools
 import glob
 import os
@@ -73,18 +73,19 @@ class Edit:
             raise ValueError(f"{path} changes neither code nor specs")
         self.changed = {pair["file"].split("/")[1] for pair in self.pairs}
 
-    def apply(self, folder):
-        for pair in self.pairs:
-            file, old, new = pair["file"], pair["old"], pair["new"]
-            path = os.path.join(folder, file)
-            if not os.path.isfile(path):
-                raise ValueError(f"it does not fit: there is no {file}")
-            with open(path, encoding="utf-8") as source:
-                text = source.read()
-            if text.count(old) != 1:
-                raise ValueError(f"it does not fit: {file} has {text.count(old)} times: {old}")
-            with open(path, "w", encoding="utf-8") as out:
-                out.write(text.replace(old, new))
+    def texts(self):
+        """Each file that the edit changes, with its new text."""
+        texts = {}
+        for file, old, new in (pair.values() for pair in self.pairs):
+            if file not in texts:
+                if not os.path.isfile(os.path.join(ROOT, file)):
+                    raise ValueError(f"it does not fit: there is no {file}")
+                with open(os.path.join(ROOT, file), encoding="utf-8") as source:
+                    texts[file] = source.read()
+            if texts[file].count(old) != 1:
+                raise ValueError(f"it does not fit: {file} has {texts[file].count(old)} times: {old}")
+            texts[file] = texts[file].replace(old, new)
+        return texts
 
 
 def dependencies():
@@ -134,11 +135,15 @@ def prepare(crate):
 
 def check(edit, folder):
     """Check the edited crates in a folder of their own: the exit status, and what was printed."""
+    if not edit.changed <= set(below(edit.crate)):
+        raise ValueError(f"{edit.crate} rests on no {', '.join(edit.changed - set(below(edit.crate)))}")
     for crate in edit.changed | {edit.crate}:
         for part in PARTS:
             if os.path.isdir(os.path.join(ROOT, "crates", crate, part)):
                 shutil.copytree(os.path.join(ROOT, "crates", crate, part), os.path.join(folder, "crates", crate, part))
-    edit.apply(folder)
+    for file, text in edit.texts().items():
+        with open(os.path.join(folder, file), "w", encoding="utf-8") as out:
+            out.write(text)
     os.makedirs(os.path.join(folder, "target/rlib"))
     for crate in below(edit.crate)[:-1]:
         if crate in edit.changed:
@@ -191,6 +196,15 @@ def judge(edit, status, text):
     return f"at {edit.fact}"
 
 
+def fits(path):
+    try:
+        Edit(path).texts()
+    except (ValueError, OSError) as wrong:
+        print(f"must-fail {path}: FAILED: {wrong}")
+        return False
+    return True
+
+
 def tried(path, show):
     began, text = time.monotonic(), ""
     name = os.path.relpath(os.path.abspath(path), os.path.join(ROOT, "must-fail"))[: -len(".edit")]
@@ -214,9 +228,15 @@ def failed(text):
 def main():
     began = time.monotonic()
     show = "--facts" in sys.argv
-    paths = [word for word in sys.argv[1:] if word != "--facts"] or sorted(glob.glob(os.path.join(ROOT, "must-fail/*/*.edit")))
+    paths = [word for word in sys.argv[1:] if not word.startswith("--")] or sorted(glob.glob(os.path.join(ROOT, "must-fail/*/*.edit")))
+    if "--fit" in sys.argv:
+        good = list(map(fits, paths))
+        print(f"must-fail: {sum(good)} fit, {len(good) - sum(good)} do not")
+        return 0 if all(good) else 1
     try:
         refusing = {path: Edit(path).crate for path in paths}
+        if not set(refusing.values()) <= set(DEPS):
+            raise ValueError(f"crates.txt has no {', '.join(set(refusing.values()) - set(DEPS))}")
     except (ValueError, OSError) as wrong:
         return failed(str(wrong))
     # those that take longest first
