@@ -174,7 +174,8 @@ def facts(text):
             names = re.findall(r"`([^`]+)`", why.partition("`search` does not close ")[2])
             found += [f"{place} {name}" for name in names]
             other += [] if names else [f"{function}: no proof, {why[:200]}"]
-    return list(dict.fromkeys(re.sub(r"^\S*crates/(\w+)/", r"\1: ", fact) for fact in found)), other
+    # a module of a crate between stands in the library that rt wrote of it
+    return list(dict.fromkeys(re.sub(r"^\S*(?:crates|rlib)/(\w+)(?:\.rlib/lang/antt)?/", r"\1: ", fact) for fact in found)), other
 
 
 def judge(edit, status, text):

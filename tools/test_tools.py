@@ -498,6 +498,7 @@ class MustFail(unittest.TestCase):
         f"{ONE.replace('eight', 'nine')}:3:5: error: `returns`: the two types differ": "refused at one: proofs/nine/Proof.antt returns, and not at",
         f"{ONE.replace('one', 'two')}:3:5: error: `returns`: the two types differ": "refused at two: proofs/eight/Proof.antt returns, and not at",
         f"{ONE}:3:5: error: `returns`: the two types differ\n{ONE.replace('one', 'two')}:3:5: error: `law`: the two types differ": "in no other crate",
+        "target/rlib/two.rlib/lang/antt/proofs/Law.antt:3:5: error: `law`: the two types differ": "refused at two: proofs/Law.antt law, and not at",
         f"{ONE}:9:1: error: `returns`: `other` was not admitted (it was rejected)": "refused at no fact",
         f"{ONE}:3:5: error: `returns`: `if2` has no field `taken`": "for another reason than a fact",
         f"{ONE}:3:5: error: `returns`: the two types differ\n{ONE}:4:5: error: expected a term": "for another reason than a fact",
