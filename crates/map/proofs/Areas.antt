@@ -61,14 +61,14 @@ module _ (c : Config) where
   unfolding setUpCode
   code-unused k p h l u =
       elim (ℕ-discrete k (safeBlock c)) [
-        | yes e ↦ rw e (code-safe p h ∙ start-trusted)
+        | yes e ↦ rw e (code-safe p h ∙ start-trusted (layoutOf c))
         | no d ↦ rw (ne-eqb k 0 (omega arith), le-ltb k (heapBlock c) (omega arith), le-ltb k (safeBlock c) l, ne-eqb k (safeBlock c) d, le-ltb k (blocks c) u)
       ]
 
   -- ---- what the map's codes and the bytes beside it decide
 
   places : mapBytes c * perByte (layoutOf c) ≡ blocks c + toWhole (layoutOf c) (blocks c)
-  unfolding mapBytes mapBytesFor dividedUp perByte
+  unfolding mapBytes mapBytesFor dividedUp perByte toWhole
   places = omega arith
 
   is-set-up : (ram whole : List ℕ) → GoodConfig c → length ram ≡ ramBytes → Bytes ram → Bytes whole → length whole ≡ length ram
@@ -76,7 +76,7 @@ module _ (c : Config) where
       → ((k : ℕ) → k < mapBytes c * perByte (layoutOf c) → codeOf (layoutOf c) whole k ≡ setUpCode c k) → whole ≡ setUpRam (layoutOf c) c ram
   unfolding setUpRam mapByte perByte
   is-set-up ram whole g sized bytes bytes′ same beside codes =
-      ext-getD 0 whole (setUpRam (layoutOf c) c ram) (same ∙ sym (length-setUpRam (layoutOf c) c ram))
+      ext-getD 0 whole (setUpRam (layoutOf c) c ram) (same ∙ sym (length-setUpRam c ram))
       (λ i _. byTest (leb (c .bot .0) i)
       (λ t. byTest (ltb i (c .bot .0 + mapBytes c))
       (λ u. byte-by-codes (layoutOf c) whole (setUpRam (layoutOf c) c ram) i (leb-true _ _ t) (bytes′ i) (setUpRam-bytes c ram bytes i)

@@ -85,8 +85,8 @@ run-first bot ram k first vs = let next : suc k ≡ k + 1 = omega arith in rw (�
 -- ---- counting a segment
 
 -- behind block next, which is counted if it is odd, comes an even one
-pub even-fits : (next end : ℕ) → next ≤ end → (next % 2 ≢ 0 → next ≢ end) → next + next % 2 ≤ end
-even-fits next end h odd = elim (ℕ-discrete (next % 2) 0) [ yes e ↦ omega arith | no d ↦ omega (arith, odd d) ]
+pub even-fits : (next end : ℕ) → next ≤ end → ((2 - next % 2) % 2 ≢ 0 → next ≢ end) → next + (2 - next % 2) % 2 ≤ end
+even-fits next end h odd = elim (ℕ-discrete ((2 - next % 2) % 2) 0) [ yes e ↦ omega arith | no d ↦ omega (arith, odd d) ]
 
 -- n blocks from block k on: those before block from continue it, and so do m more
 pub segment-count : (c : Config) (ram : List ℕ) (k n from m later : ℕ) → later ≡ laterCode (layoutOf c) (ownerOf (layoutOf c) (codeOf (layoutOf c) ram k))

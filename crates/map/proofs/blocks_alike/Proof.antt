@@ -4,12 +4,14 @@ use mathlib.Core.Path.{_≡_, sym, _∙_}
 use native.Mathlib.Decide.{ℕ-discrete}
 use native.Mathlib.Omega.{arith}
 use Rattle.rules.specs.Memory.{radix, dividedUp, mapByte, mapDigit, mapBytesFor, perByte, codeOf}
+use Rattle.address.specs.Places.{mapAt}
 use Rattle.map.proofs.Halves.{codes-of-bytes, codes-differ}
 use borrow.Author.Needs.{needs}
 use Rattle.map.proofs.blocks_alike.Statement.{statement}
 use Rattle.map.proofs.blocks_alike.Tie as tie
 
 both-requires : tie.Need-both-requires
+unfolding radix
 both-requires c κs = c .before .pre .1 .1 .1
 
 map-byte-requires : tie.Need-map-byte-requires
@@ -59,7 +61,7 @@ returns-3 c =
     let code = c .before .before .before .before .before .before .before .before .args .code in
     let bytes = c .before .before .before .before .bytes-alike .result in
     let codes = codes-of-bytes bot ram k _ _ code (c .before .before .before .before .before .map-byte .ensures) (c .before .before .before .before .before .before .before .before .pre .1 .0) (omega (arith, c .before .before .before .before .before .before .before .before .pre .1)) (rw (c .before .before .before .before .before .before .both .ensures) at (c .before .before .before .before .bytes-alike .ensures .1 .0)) in
-    let here : codeOf bot ram (k + bytes * 2) ≡ code = sym (rw (c .before .before .further .ensures) at (c .before .even-code .ensures)) ∙ c .if2 .left in
+    let here : codeOf (mapAt bot) ram (k + bytes * 2) ≡ code = sym (rw (c .before .before .further .ensures) at (c .before .even-code .ensures)) ∙ c .if2 .left in
     let next : k + (bytes * 2 + 1) ≡ k + bytes * 2 + 1 = omega arith in (
       omega arith,
       (

@@ -1,7 +1,6 @@
 -- `map::completes` meets its contract. Assumes nothing.
 use mathlib.Core.Bool.{false≢true}
 use borrow.Author.Tests.{eqb-true, eqb-false}
-use Rattle.rules.specs.Memory.{radix, freeCode}
 use borrow.Author.Needs.{needs}
 use Rattle.map.proofs.completes.Statement.{statement}
 use Rattle.map.proofs.completes.Tie as tie
@@ -13,7 +12,6 @@ returns : tie.Need-returns
 returns c = (λ e. absurd (false≢true e), λ _ e. absurd (c .if1 .taken e))
 
 returns-2 : tie.Need-returns-2
-unfolding radix freeCode
 returns-2 c = (λ t. (c .if1 .left, eqb-true _ _ t), λ t _. eqb-false _ _ t)
 
 pub completes-spec : {M : Type 1} → statement M

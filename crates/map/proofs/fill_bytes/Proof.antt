@@ -5,6 +5,7 @@ use native.Mathlib.Omega.{arith}
 use lib.ListN.{length, length-set, replicate}
 use Rattle.rules.specs.Memory.{radix, perByte, setCodes}
 use Rattle.rules.specs.State.{ramByte}
+use Rattle.address.specs.Places.{mapAt}
 use Rattle.laws.proofs.Map.{Bytes}
 use Rattle.map.proofs.Runs.{bytes-next, bytes-stay}
 use borrow.Author.Needs.{needs}
@@ -14,12 +15,14 @@ use Rattle.map.proofs.fill_bytes.Tie as tie
 abbrev Inv-loop : tie.InvT-loop
 Inv-loop ram₀ n code byte at₀ end ram at =
     (at ≤ end) × (length ram ≡ length ram₀) × Bytes ram
-    × (setCodes (ramByte at₀) ram₀ 0 (replicate (n * perByte) code) ≡ setCodes (ramByte at) ram 0 (replicate ((end - at) * perByte) code))
+    × (setCodes (mapAt (ramByte at₀)) ram₀ 0 (replicate (n * perByte (mapAt (ramByte at₀))) code)
+    ≡ setCodes (mapAt (ramByte at)) ram 0 (replicate ((end - at) * perByte (mapAt (ramByte at))) code))
 
 abbrev μ-loop : tie.MeasureT-loop
 μ-loop ram₀ n code byte at₀ end ram at = end - at
 
 both-requires : tie.Need-both-requires Inv-loop μ-loop
+unfolding radix
 both-requires c κs = c .before .pre .1 .1
 
 cast-at : tie.Need-cast-at Inv-loop μ-loop

@@ -3,7 +3,7 @@ use Prim.Native.Nat.{_*_, _/_}
 use mathlib.Core.Path.{_∙_}
 use native.Mathlib.Omega.{arith}
 use lib.ListN.{replicate}
-use Rattle.rules.specs.Memory.{dividedUp, mapByte, mapDigit, mapBytesFor, perByte}
+use Rattle.rules.specs.Memory.{radix, dividedUp, mapByte, mapDigit, mapBytesFor, perByte}
 use Rattle.map.proofs.Runs.{from-even, run-even, run-odd}
 use borrow.Author.Needs.{needs}
 use Rattle.map.proofs.fill_from_even.Statement.{statement}
@@ -14,7 +14,7 @@ unfolding mapByte mapBytesFor dividedUp perByte
 map-byte-requires c κs = omega arith
 
 fill-bytes-requires : tie.Need-fill-bytes-requires
-unfolding mapByte mapDigit mapBytesFor dividedUp perByte
+unfolding mapByte mapDigit mapBytesFor dividedUp radix perByte
 fill-bytes-requires c κs = (c .before .before .before .pre .0, (omega (arith, c .before .before .before .pre .1), c .before .before .before .pre .1 .1 .1))
 
 same-length : tie.Need-same-length

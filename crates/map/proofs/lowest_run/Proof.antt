@@ -4,8 +4,9 @@ use mathlib.Core.Path.{_≡_, refl, sym, ap, _∙_}
 use native.Mathlib.Omega.{arith}
 use Rattle.rules.specs.declared.Block.{Block}
 use Rattle.rules.specs.declared.Config.{Config}
-use Rattle.rules.specs.Memory.{ramBytes, radix, perByte, mapDigit, mapByte, heapBlock, safeBlock, freeCode}
+use Rattle.rules.specs.Memory.{ramBytes, radix, perByte, codesOf, mapByte, heapBlock, safeBlock, freeCode}
 use Rattle.rules.specs.Malloc.{lowestRun}
+use Rattle.address.specs.Places.{toWhole}
 use Rattle.laws.proofs.Good.{goodConfig-facts, heapBlock≤safeBlock}
 use Rattle.laws.proofs.Search.{search-past}
 use Rattle.map.proofs.Search.{Sought, sought-first, sought-more, sought-anew, sought-found, sought-completed}
@@ -42,7 +43,7 @@ first : (c : tie.After-both Inv-loop μ-loop Inv-search μ-search)
     → Sought (c .before .before .before .before .before .before .before .before .before .before .before .args .config) (c .before .before .before .before .before .before .before .before .before .before .before .args .ram .now) (c .before .before .before .before .before .before .before .before .before .before .before .args .n) (c .before .before .before .before2 .result .0) (c .before .before .before .before .free-to-even .result) (c .before .before .map-byte .result .0)
 first c =
     let one = c .before .before .before .before .free-to-even .ensures in
-    rw (c .before .before .before .before2 .ensures, c .before .before .map-byte .ensures, c .before .before .before .before .before .further .ensures)
+    rw (c .before .before .before .before2 .ensures, c .before .before .map-byte .ensures, c .before .before .before .before .before .further .ensures, c .before .before .before .before .before .before .to-whole .ensures)
     (sought-first _ _ _ _ _ (heap-is (c .before .before .before .before .before .before .before)) (c .before .before .before .before .before .before .before .before .before .before .before .pre .1 .1) (one .0) (one .1 .0) (one .1 .1))
 
 -- the search as it stands in a turn of the inner loop, and before it
@@ -70,28 +71,30 @@ returns : tie.Need-returns Inv-loop μ-loop Inv-search μ-search
 unfolding lowestRun
 returns c =
     let config = c .before .before .before .args .config in
-    sym (search-past config (c .before .before .before .args .ram .now) (c .before .before .before .args .n) _ _ (c .before .before .before .pre .1 .1) (omega (arith, end-is (c .before), heapBlock≤safeBlock (goodConfig-facts config (c .before .before .before .pre .1 .0)))))
+    sym (search-past config (codesOf config (c .before .before .before .args .ram .now)) (c .before .before .before .args .n) _ _ (c .before .before .before .pre .1 .1) (omega (arith, end-is (c .before), heapBlock≤safeBlock (goodConfig-facts config (c .before .before .before .pre .1 .0)))))
 
 block-of-requires-2 : tie.Need-block-of-requires-2 Inv-loop μ-loop Inv-search μ-search
 block-of-requires-2 c κs = bot≤heap _ (c .before .before .before .pre .1 .0)
 
+to-whole-requires : tie.Need-to-whole-requires Inv-loop μ-loop Inv-search μ-search
+to-whole-requires c κs = search needs
+
 further-requires : tie.Need-further-requires Inv-loop μ-loop Inv-search μ-search
-unfolding mapDigit perByte
-further-requires c κs = omega (arith, heap-is (c .before), heapBlock≤safeBlock (goodConfig-facts _ (c .before .before .before .before .before .pre .1 .0)), safeBlock≤ram _ (c .before .before .before .before .before .pre .1 .0))
+unfolding toWhole perByte
+further-requires c κs = omega (arith, c .to-whole .ensures, heap-is (c .before), heapBlock≤safeBlock (goodConfig-facts _ (c .before .before .before .before .before .pre .1 .0)), safeBlock≤ram _ (c .before .before .before .before .before .pre .1 .0))
 
 free-to-even-requires : tie.Need-free-to-even-requires Inv-loop μ-loop Inv-search μ-search
 free-to-even-requires c κs = (c .before .before .before .before .before .before .pre .0, rw (heap-is (c .before .before)) (code<ram _ (c .before .before .before .before .before .before .pre .1 .0) _ (heapBlock≤safeBlock (goodConfig-facts _ (c .before .before .before .before .before .before .pre .1 .0)))))
 
 before-requires : tie.Need-before-requires Inv-loop μ-loop Inv-search μ-search
-unfolding mapDigit perByte
-before-requires c κs = rw (c .before .further .ensures) (omega (arith, c .free-to-even .ensures .0))
+before-requires c κs = rw (c .before .further .ensures, c .before .before .to-whole .ensures) (omega (arith, c .free-to-even .ensures .0))
 
 map-byte-requires : tie.Need-map-byte-requires Inv-loop μ-loop Inv-search μ-search
-unfolding mapByte perByte
+unfolding toWhole mapByte perByte
 map-byte-requires c κs =
     let config = c .before .before .before .before .before .before .before .before .args .config in
     let heap = code<ram config (c .before .before .before .before .before .before .before .before .pre .1 .0) _ (heapBlock≤safeBlock (goodConfig-facts _ (c .before .before .before .before .before .before .before .before .pre .1 .0))) in
-    rw (c .before .before .further .ensures) (omega (arith, heap, heap-is (c .before .before .before .before)))
+    rw (c .before .before .further .ensures) (omega (arith, c .before .before .before .to-whole .ensures, heap, heap-is (c .before .before .before .before)))
 
 cast-at : tie.Need-cast-at Inv-loop μ-loop Inv-search μ-search
 cast-at c = search needs
@@ -101,7 +104,7 @@ unfolding radix
 both-requires c κs = omega arith
 
 search-holds : tie.Need-search-holds Inv-loop μ-loop Inv-search μ-search
-unfolding mapDigit perByte
+unfolding toWhole perByte
 search-holds c = (omega (arith, c .before .before .before .before .free-to-even .ensures .0), λ _ s. s)
 
 further-requires-2 : tie.Need-further-requires-2 Inv-loop μ-loop Inv-search μ-search
@@ -162,6 +165,7 @@ returns-2 c =
     sym (same ∙ search-past _ _ _ _ _ (c .before .before .before .before .before .before .before .before .before .before .before .before .before .before .pre .1 .1) (omega (arith, end-is (c .before .before .before .before .before .before .before .before .before .before .before .before))))
 
 returns-3 : tie.Need-returns-3 Inv-loop μ-loop Inv-search μ-search
+unfolding radix freeCode
 returns-3 c =
     let all = c .before .completes .ensures .0 (c .if4 .taken) in
     let found = sought-completed _ _ _ _ _ _ (now-it (c .before .before .before .before .before)) (all .0) (all .1) (fits (c .before .before .before .before .before)) in
@@ -175,4 +179,4 @@ returns-4 c =
     sym (sought-found _ _ _ _ _ _ (c .before .loop .inv .3 config before) (omega arith) fits (c .before .before .before .before .before .before .before .before .before .before .before .before .before .before .before .before .before .pre .1 .1))
 
 pub lowest-run-spec : {M : Type 1} → statement M
-lowest-run-spec = tie.close (tie.spec Inv-loop μ-loop Inv-search μ-search block-of-requires returns block-of-requires-2 further-requires free-to-even-requires before-requires map-byte-requires cast-at both-requires search-holds further-requires-2 loop-holds shared-slice-read-byte add-at further-requires-3 add-run loop-less loop-again completes-requires free-at-end-requires before-requires-2 search-less search-again returns-2 returns-3 returns-4)
+lowest-run-spec = tie.close (tie.spec Inv-loop μ-loop Inv-search μ-search block-of-requires returns block-of-requires-2 to-whole-requires further-requires free-to-even-requires before-requires map-byte-requires cast-at both-requires search-holds further-requires-2 loop-holds shared-slice-read-byte add-at further-requires-3 add-run loop-less loop-again completes-requires free-at-end-requires before-requires-2 search-less search-again returns-2 returns-3 returns-4)

@@ -9,7 +9,7 @@ block-of-requires : tie.Need-block-of-requires
 block-of-requires c κs = search needs
 
 start-of-requires : tie.Need-start-of-requires
-start-of-requires c κs = rw (c .block-of .ensures) (omega (arith, start-le (c .before .args .bot) (c .before .args .a) (c .before .pre)))
+start-of-requires c κs = rw (c .block-of .ensures) (omega (arith, start-le (c .before .args .config) (c .before .args .a) (c .before .pre)))
 
 returns : tie.Need-returns
 returns c = rw (c .before .before .start-of .ensures, c .before .before .before .block-of .ensures)
