@@ -1,12 +1,13 @@
 -- Call's table of refusals: one word of the jump table is enough, and what holds where a call is done.
 -- Assumes nothing.
-use Prim.Native.Nat.{ℕ, _+_, _<_, _≤_}
+use Prim.Native.Nat.{ℕ, suc, _+_, _-_, _<_, _≤_}
 use mathlib.Core.Path.{_≡_, refl, sym, _∙_}
 use mathlib.Core.Bool.{true, false, not, _&&_}
 use mathlib.Core.List.{List}
+use native.Mathlib.Omega.{arith}
 use lib.ListN.{length, getD, length-replicate, getD-replicate}
 use lib.Dec.{eqb, leb, ltb}
-use borrow.Author.Tests.{eq-eqb, ne-eqb, ltb-false, leb-false}
+use borrow.Author.Tests.{eq-eqb, ne-eqb, lt-ltb, le-ltb, ltb-false, leb-false}
 use Rattle.rules.specs.declared.RamByte.{RamByte}
 use Rattle.rules.specs.declared.FlashWord.{FlashWord}
 use Rattle.rules.specs.declared.Range.{Range}
@@ -46,6 +47,15 @@ module _ (s : State) (word : ℕ) (t e : FlashWord) (within : tableWord (s .conf
 
     pub good-entry : (e .0 ≡ 0 → ⊥) → inRange r e ≡ true → goodEntry (s .config) (tableOf word) t ≡ true
     good-entry n h = rw (tableOf-at word (tableWord (s .config) t) within, ne-eqb word 0 (rw is at n)) (rw (is, of) at h)
+
+-- ---- whether n bytes fit below top
+
+module _ (s : State) (n : ℕ) where
+  pub passes-top : s .config .top .0 - s .safepointer .0 < n → ltb (s .config .top .0) (s .safepointer .0 + n) ≡ true
+  passes-top h = lt-ltb (s .config .top .0) (s .safepointer .0 + n) (omega arith)
+
+  pub fits-below : suc n ≤ s .config .top .0 - s .safepointer .0 → ltb (s .config .top .0) (s .safepointer .0 + suc n) ≡ false
+  fits-below h = le-ltb (s .config .top .0) (s .safepointer .0 + suc n) (omega arith)
 
 -- ---- where a call is done
 
