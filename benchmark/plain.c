@@ -361,7 +361,7 @@ static uint32_t plain_malloc(uint8_t *ram, size_t ram_len,
     if (size == 0)
         REFUSE(16);
     bot = word(slot + BOT);
-    need = (size + 7u) / 8;
+    need = (unsigned)(((uint32_t)size + 7) / 8);    /* no wrap at 16 bits */
     found = find_run(ram + bot, (word(slot + HEAP) - bot) / 8,
         (word(slot + SAFE) - bot) / 8, need);
     if (found == 0)

@@ -15,8 +15,8 @@
  *
  * An answer is one 32-bit number: answer number times 65536 plus value.
  * HMT_NUMBER() and HMT_VALUE() take it apart. A refusal has value 0 and
- * leaves slot and RAM as they were. Of several refusals that apply the one
- * with the smallest number is given.
+ * leaves slot and RAM as they were. Of several refusals that apply the first
+ * in the table of its function is given: the list behind "Refusals" below.
  *
  * What C can't check and the caller must see to:
  *   - each pointer points to as many bytes as its length says, and is not

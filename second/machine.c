@@ -319,9 +319,9 @@ static unsigned top_frame(const uint8_t *used_area, unsigned used,
     if (used < length)
         return 0;
     frame = used_area + used - length;
-    *site = (uint16_t)(frame[0] + 256 * frame[1]);
+    *site = (uint16_t)(frame[0] + 256u * frame[1]);
     if (length == CROSS_FRAME)
-        *old_bound = (uint16_t)(frame[2] + 256 * frame[3]);
+        *old_bound = (uint16_t)(frame[2] + 256u * frame[3]);
     return length;
 }
 
@@ -359,7 +359,7 @@ struct machine_answer machine_malloc(struct machine_state *s,
 {
     const struct machine_config *c = &s->config;
     uint16_t first = first_refusal(s, ram_length == MACHINE_RAM);
-    unsigned need = (size + BLOCK - 1u) / BLOCK;
+    unsigned need = size / (unsigned)BLOCK + (size % BLOCK != 0);
     unsigned run = 0, found = 0, k;
     struct picture p;
 

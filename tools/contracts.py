@@ -12,12 +12,17 @@ and passes the function if
   - the field is about every parameter, each of its type (numbers as ℕ, slices as List ℕ);
   - behind λ stand the result, if it has one, and every place lent with &mut, and nothing else: so nothing is left open;
   - what follows is its `ensures` word for word, with x for `now (x .entry)` and x′ for `now (x .exit)`;
-  - each word of it is taken from where the source takes it. A word of the crate's own, which promises cannot cite, is a parameter of the
-    field (so the theorem holds whatever it means), or written out as its definition in the crate's specs says.
+  - each name in it, word or operator, is taken from where the source takes it, and so is each type. A word of the crate's own, which
+    promises cannot cite, is a parameter of the field, of the type that its definition in the crate's specs has (so the theorem holds
+    whatever it means), or written out as that definition says.
 
-Functions of one name share the field, and each is held to it. A function is public if its file is open from the crate's root on. One with a `requires` is named as such: only proved code calls it.
+A use line that renames a name or brings a whole module is not followed, and fails what it stands above. Functions of one name share the
+field, and each is held to it. A function is public if its file is open from the crate's root on. One with a `requires` is named as such:
+only proved code calls it.
+
+  python3 tools/contracts.py [ROOT]         ROOT is a folder with crates/ in it; else the repository
+
 The last line printed is 'contracts: N passed, M failed'."""
-import glob
 import os
 import re
 import sys
@@ -26,6 +31,11 @@ ROOT = os.path.dirname(os.path.dirname(os.path.abspath(__file__)))
 FIELDS = "crates/promises/specs/Uniqueness.antt"
 OPEN, CLOSE = "([{⌜", ")]}⌝"
 WORD = r"[^\W\d][\w′]*"
+NAME = r"""[^\s(){}.;,@"«»]+"""  # a name of the specs' language, word or operator
+GHOST_USE = r"\bghost\s+use\s+([^;]*);"  # in a source: only these speak of contracts
+SPEC_USE = r"^\s*(?:pub\s+)?use\s+([^{\n]*(?:\{[^}]*\})?[^\n]*)"
+BUILT_IN = {"×", "→", ":", "λ"}  # its own, which no use line brings
+TYPES = {"ℕ": "Prim.Native.Nat", "List": "mathlib.Core.List", "Bool": "mathlib.Core.Bool"}  # what in_antt writes
 
 
 def read(path, comment):
@@ -69,9 +79,28 @@ def split(text, mark):
     return [part.strip() for part in parts + [text[start:]] if part.strip()]
 
 
-def uses(text):
-    """Which word is taken from where."""
-    return {word.strip(): module for module, words in re.findall(r"\buse ([\w·.]+)\.\{([^}]*)\}", text) for word in words.split(",")}
+def uses(text, lines):
+    """The names that a file's use lines bring, each with the module it is from."""
+    brought = set()
+    for line in re.findall(lines, text, re.M):
+        plain = re.fullmatch(r"([\w·.-]+)\.\{([^{}]*)\}", line.strip())
+        names = [name.strip() for name in plain.group(2).strip(" \n,").split(",")] if plain else []
+        if not names or not all(re.fullmatch(NAME, name) for name in names):
+            raise ValueError(f"`use {' '.join(line.split())}` renames a name or brings a module, which this test does not follow")
+        brought |= {(name, plain.group(1)) for name in names}
+    return brought
+
+
+def names_in(text):
+    """The names in a contract, each part of an operator by itself; not the fields, which stand behind a dot, and not numbers."""
+    if path := re.search(rf"{NAME}\.{NAME}", text):
+        raise ValueError(f"`{path.group(0)}` is named by its path, which this test does not follow")
+    return {name for name in re.findall(rf"\.?{NAME}", text) if name[0] != "." and not name.isdecimal()}
+
+
+def origin(name, brought):
+    """Which of the names that are brought a name in a contract may be, or be a part of."""
+    return {(whole, module) for whole, module in brought if name == whole or name in whole.split("_")}
 
 
 def in_antt(kind):
@@ -117,18 +146,26 @@ def fields(text):
     return found
 
 
-def written_out(text, crate, known):
-    """A contract whose first word is the crate's own: as its definition in specs/ says."""
+def own_specs(root, crate, word, brought):
+    """The text of the file of the crate's own specs from which a source takes a word; nothing if it is from elsewhere."""
+    modules = [module for _, module in origin(word, brought)]
+    own = re.fullmatch(rf"Rattle\.{crate}\.specs\.(\w+)", modules[0]) if len(modules) == 1 else None
+    return read(os.path.join(root, "crates", crate, "specs", own.group(1) + ".antt"), "--") if own else ""
+
+
+def written_out(text, specs, brought):
+    """A contract whose first word is the crate's own: as its definition in the specs says. With it, which names are taken by whom."""
     word = text.split(" ")[0]
-    for path in [] if word in known else sorted(glob.glob(os.path.join(ROOT, "crates", crate, "specs", "*.antt"))):
-        meant = re.search(rf"^abbrev pub {re.escape(word)} : .*\n{re.escape(word)} ([^=]*) = (.*)$", read(path, "--"), re.M)
-        if meant:
-            put = dict(zip(meant.group(1).split(), split(text, " ")[1:]))
-            return re.sub(WORD, lambda name: put.get(name.group(0), name.group(0)), meant.group(2))
-    return text
+    meant = re.search(rf"^abbrev pub {re.escape(word)} : .*\n{re.escape(word)} ([^=]*) = (.*)$", specs, re.M)
+    if not meant:
+        return text, [(names_in(text), brought)]
+    handed = split(text, " ")[1:]
+    put = dict(zip(meant.group(1).split(), handed))
+    body = re.sub(WORD, lambda name: put.get(name.group(0), name.group(0)), meant.group(2))
+    return body, [(names_in(meant.group(2)) - set(put), uses(specs, SPEC_USE)), (names_in(" ".join(handed)), brought)]
 
 
-def judge(crate, source, function, field, taken):
+def judge(root, crate, source, function, field, taken):
     """Raise ValueError with what is wrong."""
     name, given, lent, hands, clauses = function
     ensured = [text for kind, text in clauses if kind == "ensures"]
@@ -140,7 +177,9 @@ def judge(crate, source, function, field, taken):
     about, results, statement = field
     text = re.sub(r"\(now \((\w+) \.entry\)\)|now \((\w+) \.entry\)", r"\1\2", said.group(2))
     text = re.sub(r"\(now \((\w+) \.exit\)\)|now \((\w+) \.exit\)", r"\1\2′", text)
-    text = written_out(text, crate, taken)
+    here = uses(source, GHOST_USE)
+    first = text.split(" ")[0]
+    text, names = written_out(text, "" if origin(first, taken) else own_specs(root, crate, first, here), here)
     wanted = [said.group(1)] * hands + [place + "′" for place in lent]
     if sorted(results) != sorted(wanted):
         raise ValueError(f"its field is about {', '.join(results)}, and it leaves {', '.join(wanted)}")
@@ -148,25 +187,35 @@ def judge(crate, source, function, field, taken):
         raise ValueError("its field is about other parameters")
     if statement != text:
         raise ValueError(f"its field says\n    {statement}\nand it ensures\n    {text}")
-    here = uses(source)
-    for word in set(re.findall(WORD, text)) - set(about) - set(results):
-        if word in here and taken.get(word) != here[word]:
-            raise ValueError(f"`{word}` is from {here[word]}, and in its field from {taken.get(word)}")
+    for word in {word for kind in given.values() for word in kind.split()}:
+        crates = re.findall(rf"^\s*use\s+(\w+)::{word}\s*;", source, re.M)
+        if origin(word, taken) != {(word, TYPES.get(word) or f"Rattle.{''.join(crates)}.specs.declared.{word}")}:
+            raise ValueError(f"the type `{word}` is from another place in its field")
+    for word in set(about) - set(given):
+        if about[word] != "Type 0" and not re.search(rf"\b{word} : {re.escape(about[word])}$", own_specs(root, crate, word, here), re.M):
+            raise ValueError(f"`{word}`, a parameter of its field, is none of its own and no word of the crate's specs with that type")
+    bound = {word for some in re.findall(r"\(([^():]*) : |λ ([^.]*)\.", text) for word in "".join(some).split()}
+    for used, brought in names:
+        for word in used - set(about) - set(results) - bound:
+            ours, theirs = origin(word, brought), origin(word, taken)
+            if ours != theirs or not ours and word not in BUILT_IN:
+                told = [", ".join(sorted(module for _, module in places)) or "nowhere" for places in (ours, theirs)]
+                raise ValueError(f"`{word}` is from {told[0]}, and in its field from {told[1]}")
 
 
-def main():
-    spec = read(os.path.join(ROOT, FIELDS), "--")
-    stated, taken = fields(spec), uses(spec)
+def main(root):
+    spec = read(os.path.join(root, FIELDS), "--")
+    stated, taken = fields(spec), uses(spec, SPEC_USE)
     passed, failed, leaves, seen = 0, 0, [], set()
-    crates = os.path.join(ROOT, "crates")
+    crates = os.path.join(root, "crates")
     for crate in sorted(os.listdir(crates)):
-        for root in ("lib", "main"):
-            for source, inner in open_files(os.path.join(crates, crate, "src"), root):
+        for first in ("lib", "main"):
+            for source, inner in open_files(os.path.join(crates, crate, "src"), first):
                 for function in functions(source):
                     name, full = function[0], "::".join((crate, *inner, function[0]))
                     try:
                         seen.add(name)
-                        judge(crate, source, function, stated.get(name), taken)
+                        judge(root, crate, source, function, stated.get(name), taken)
                         print(f"contract {full}: unique")
                         passed += 1
                     except ValueError as wrong:
@@ -186,4 +235,8 @@ def main():
 
 
 if __name__ == "__main__":
-    sys.exit(main())
+    try:
+        sys.exit(main(sys.argv[1] if len(sys.argv) > 1 else ROOT))
+    except ValueError as wrong:
+        print(f"FAILED: {wrong}\ncontracts: 0 passed, 1 failed")
+        sys.exit(1)

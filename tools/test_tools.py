@@ -1,5 +1,5 @@
 #!/usr/bin/env python3
-"""Tests of the converter tools/hmtscript.py and of ./run.
+"""Tests of the converter tools/hmtscript.py, of ./run and of tools/contracts.py.
 
   python3 tools/test_tools.py PROGRAM       a program that reads a script on standard input
 """
@@ -444,27 +444,143 @@ class Tools(unittest.TestCase):
         self.assertEqual(self.start(RUN, "--wrong").returncode, 2)
         self.assertEqual(self.start(CONVERT, "to-nothing", "a").returncode, 2)
 
+    # ---- contracts ----
+
+    def contracts(self, *changes):
+        """What tools/contracts.py says of a made-up crate, after some texts in its files were put in the place of others."""
+        files = {
+            "crates/promises/specs/Uniqueness.antt": """
+use Prim.Native.Nat.{ℕ, _+_, _<_}
+use mathlib.Core.Path.{_≡_}
+use mathlib.Core.List.{List}
+use lib.ListN.{length}
+use Rattle.rules.specs.declared.Word.{Word}
+use Rattle.rules.specs.Sums.{sum, word}
+
+pub record Uniqueness : Type 1 where
+  pub total : (xs : List ℕ) (n : ℕ) → Only (λ r. (r ≡ sum xs + n) × (n < length xs → r ≡ 0))
+  pub next : (k : Word) (n : ℕ) → Only (λ r. r ≡ word (k .0 + n))
+  pub most : (n : ℕ) → Only (λ r. (r ≡ n) × ((j : ℕ) → j < n → j < r))
+  pub put : (shown : ℕ → ℕ) (n : ℕ) (out : List ℕ) → Only2 (λ r out′. (r ≡ (shown n)) × (out′ ≡ sum out + r))
+""",
+            "crates/thing/specs/Own.antt": """
+use Prim.Native.Nat.{ℕ, _+_}
+use mathlib.Core.Path.{_≡_}
+use mathlib.Core.List.{List}
+use Rattle.rules.specs.Sums.{sum}
+
+pub shown : ℕ → ℕ
+shown n = n + n
+
+abbrev pub Wrote : List ℕ → List ℕ → ℕ → ℕ → Type 0
+Wrote before after text r = (r ≡ text) × (after ≡ sum before + r)
+""",
+            "crates/thing/src/lib.rt": """
+ghost use mathlib.Core.Path.{_≡_};
+ghost use Prim.Native.Nat.{ℕ, _+_, _<_};
+ghost use lib.ListN.{length};
+ghost use Rattle.rules.specs.Sums.{sum, word};
+ghost use Rattle.thing.specs.Own.{shown, Wrote};
+use rules::Word;
+
+pub fn total(xs: &[u8], n: u16) -> u32
+    ensures { λ r. ⌜ (r ≡ sum (now (xs .entry)) + n) × (n < length (now (xs .entry)) → r ≡ 0) ⌝ }
+{ }
+
+pub fn next(k: Word, n: u16) -> Word
+    requires { ⌜ n < 9 ⌝ }
+    ensures { λ r. ⌜ r ≡ word (k .0 + n) ⌝ }
+{ }
+
+pub fn most(n: u16) -> u16
+    ensures { λ r. ⌜ (r ≡ n) × ((j : ℕ) → j < n → j < r) ⌝ }
+{ }
+
+pub fn put(n: u16, out: &mut [u8]) -> u16
+    ensures { λ r. ⌜ Wrote (now (out .entry)) (now (out .exit)) (shown n) r ⌝ }
+{ }
+""",
+        }
+        for name, old, new in changes:
+            name = next(path for path in files if path.endswith(name))
+            self.assertIn(old, files[name])
+            files[name] = files[name].replace(old, new)
+        root = Path(tempfile.mkdtemp(dir=self.folder))
+        for name, text in files.items():
+            (root / name).parent.mkdir(parents=True, exist_ok=True)
+            (root / name).write_text(text, encoding="utf-8")
+        result = self.start([sys.executable, str(ROOT / "tools" / "contracts.py")], root)
+        page = result.stdout.decode()
+        self.assertEqual(result.returncode, 0 if page.endswith(" 0 failed\n") else 1)
+        return page
+
+    def test_contracts_that_are_unique(self):
+        page = self.contracts()
+        self.assertTrue(page.endswith("alone: thing::next\ncontracts: 4 passed, 0 failed\n"), page)
+
+    def test_contracts_whose_names_are_from_elsewhere(self):
+        """Words and operators, by a use line of another module, by a renaming or by a module brought whole; in the source, in the
+        crate's specs and in the record."""
+        path, less, lib, own, record = "ghost use mathlib.Core.Path.{_≡_};", "{ℕ, _+_, _<_}", "lib.rt", "Own.antt", "Uniqueness.antt"
+        for wrong, failed, *change in (
+                ("`≡` is from other.Place, and in its field from mathlib.Core.Path", 3, lib, path, "ghost use other.Place.{_≡_};"),
+                ("`<` is from other.Place, and in its field from Prim.Native.Nat", 2, lib, less + ";",
+                 "{ℕ, _+_}; ghost use other.Place.{_<_};"),
+                ("`+` is from other.Place, and in its field from Prim.Native.Nat", 2, lib, less, "{ℕ, _<_};\nghost use other.Place.{_+_}"),
+                ("`<` is from nowhere, and in its field from Prim.Native.Nat", 2, lib, less, "{ℕ, _+_}"),
+                ("`×` is from other.Place, and in its field from nowhere", 2, lib, path, path + "ghost use other.Place.{_×_};"),
+                ("`≡` is from mathlib.Core.Path, other.Place, and", 3, lib, path, path + "\nghost use other.Place.{_≡_over_};"),
+                ("`length` is from other.Place, and in its field from lib.ListN", 1, lib, "lib.ListN", "other.Place"),
+                ("`use other.Place.{_≢_ as _≡_}` renames", 4, lib, path, "ghost use other.Place.{_≢_ as _≡_};"),
+                ("`use other.Place.{In._≡_}` renames", 4, lib, path, "ghost use other.Place.{In._≡_};"),
+                ("`use other as mathlib` renames", 4, lib, path, "ghost use other as mathlib;\n" + path),
+                ("`use other.mathlib` renames a name or brings a module", 4, lib, path, "ghost use other.mathlib;\n" + path),
+                ("the type `Word` is from another place", 1, lib, "rules::Word", "other::Word"),
+                ("the type `Word` is from another place", 1, lib, "rules::Word", "rules::Block as Word"),
+                ("`≡` is from other.Place, and in its field from mathlib.Core.Path", 1, own, "mathlib.Core.Path", "other.Place"),
+                ("`shown`, a parameter of its field, is none of its own", 1, own, "shown : ℕ → ℕ", "shown : ℕ → Word"),
+                ("`h`, a parameter of its field, is none of its own", 1, record, "next : ", "next : (h : Never) "),
+                ("the type `ℕ` is from another place", 4, record, "{ℕ, _+_, _<_}", "{_+_, _<_}\nuse other.Place.{ℕ}"),
+                ("`≡` is from mathlib.Core.Path, and in its field from other.Place", 4, record, "mathlib.Core.Path", "other.Place"),
+                ("`≡` is from mathlib.Core.Path, and in its field from nowhere", 4, record, "use mathlib.Core.Path.{_≡_}\n", ""),
+                ("its field says", 1, lib, "sum (now (xs .entry)) + n", "sum (now (xs .entry)) + 1")):
+            with self.subTest(wrong=wrong, change=change):
+                page = self.contracts(change)
+                self.assertIn(wrong, page)
+                self.assertTrue(page.endswith(f"contracts: {4 - failed} passed, {failed} failed\n"), page)
+        page = self.contracts((record, "mathlib.Core.Path.{_≡_}", "other.Place.{_≢_ as _≡_}"))
+        self.assertIn("`use other.Place.{_≢_ as _≡_}` renames", page)
+        self.assertTrue(page.endswith("contracts: 0 passed, 1 failed\n"), page)
+
     # ---- building ----
 
-    def test_builds_when_due(self):
-        """With a stand-in for rt: built when it is missing or older than a source, said once, and not else."""
+    def unbuilt(self, crates):
+        """A copy of what ./run needs, with nothing built, and with a stand-in for rt that knows these crates: it writes down what it was
+        asked, says that each crate is proved and copies a program; it refuses where a file `refuse` is. The command, its
+        environment and the program."""
         for part in ("run", "tools", "examples"):
             copy = shutil.copytree if (ROOT / part).is_dir() else shutil.copy
             copy(ROOT / part, self.folder / part)
         for folder in ("crates/hmt", "bin"):
             (self.folder / folder).mkdir(parents=True)
-        source = self.file("crates/hmt/main.rt", "")
+        self.file("crates.txt", "# a crate and those it rests on\n" + "".join(f"{name}: {on}\n" for name, on in crates.items()))
         # what the program under test asks of rt goes to the real one
         stand_in = self.file("bin/rt", f'#!/bin/sh\ntest "$1" != doc || exec "{shutil.which("rt")}" doc\n'
-                             'echo "checked: $*"\ntest ! -e refuse || exit 1\n'
+                             'echo "$*" >> asked\necho "struct a::B: proved"\n'
+                             'test ! -e refuse || { echo "rt: a NOT PROVED" >&2; exit 1; }\n'
+                             f'for name in {" ".join(crates)}; do echo "rt: $name proved (1 s)"; done\n'
                              'test -e target/bin/hmt || { mkdir -p target/bin; cp program target/bin/hmt; }\n')
         runner = self.file("tools/hmt", '#!/bin/sh\nexec "$(dirname "$0")/../target/bin/hmt"\n')
         for path in (stand_in, runner, self.file("program", f'#!/bin/sh\nexec "{PROGRAM}"\n')):
             os.chmod(path, 0o755)
-        built = self.folder / "target" / "bin" / "hmt"
         command = [str(self.folder / "run"), "--plain", str(self.folder / "examples" / "sample.txt")]
-        env = {"HMT": "", "PATH": f"{self.folder / 'bin'}:{os.environ['PATH']}"}
+        return command, {"HMT": "", "PATH": f"{self.folder / 'bin'}:{os.environ['PATH']}"}, self.folder / "target" / "bin" / "hmt"
 
+    def test_builds_when_due(self):
+        """Built when it is missing or older than a source, said once, and not else."""
+        command, env, built = self.unbuilt({"hmt": ""})
+        source = self.file("crates/hmt/main.rt", "")
+        asked = 0
         for built_age, due in ((None, True), (None, False), (100, False), (300, True), (None, False)):
             os.utime(source, (time.time() - 200,) * 2)
             if built_age:
@@ -473,16 +589,36 @@ class Tools(unittest.TestCase):
                 result = self.start(command, env=env, cwd="/")
                 self.assertEqual((result.returncode, result.stdout), (0, SAMPLE_ANSWERS))
                 self.assertEqual(result.stderr.count("building target/bin/hmt"), due)
-                self.assertEqual(result.stderr.count("checked: check hmt"), due)
+                asked += due
+                self.assertEqual((self.folder / "asked").read_text(), "check hmt\n" * asked)
         os.remove(built)
         self.file("refuse", "")
         result = self.start(command, env=env)
         self.assertEqual((result.returncode, result.stdout), (2, b""))
-        self.assertIn("can't build target/bin/hmt: `rt check hmt` ended with status 1", result.stderr)
-        os.remove(stand_in)
+        self.assertIn("struct a::B: proved\nrt: a NOT PROVED\n"
+                      "can't build target/bin/hmt: `rt check hmt` ended with status 1\n", result.stderr)
+        os.remove(self.folder / "bin" / "rt")
         result = self.start([sys.executable, *command], env={**env, "PATH": str(self.folder / "bin")})
         self.assertEqual(result.returncode, 2)
         self.assertIn("can't build target/bin/hmt: rt: No such file", result.stderr)
+
+    def test_building_says_which_crate_is_proved(self):
+        """A line for each crate that the program rests on, and nothing of what rt says; on a terminal one line, in the end empty."""
+        command, env, built = self.unbuilt({"rules": "", "map": "rules", "aside": "rules", "hmt": "map io"})
+        steps = ["run: proving rules (1 of 3)", "run: proving map (2 of 3)", "run: proving hmt (3 of 3)"]
+        result = self.start(command, env=env)
+        self.assertEqual((result.returncode, result.stdout), (0, SAMPLE_ANSWERS))
+        first, *others = result.stderr.splitlines()
+        self.assertIn("about three minutes", first)
+        self.assertEqual(others, steps)
+        os.remove(built)
+        reader, terminal = os.openpty()
+        self.addCleanup(os.close, reader)
+        result = subprocess.run(command, env={**os.environ, **env}, stdin=subprocess.DEVNULL, stdout=subprocess.PIPE, stderr=terminal)
+        os.close(terminal)
+        self.assertEqual((result.returncode, result.stdout), (0, SAMPLE_ANSWERS))
+        shown = os.read(reader, 9999).decode()
+        self.assertEqual(shown.split("\r\n"), [first, "".join("\r\033[K" + step for step in [*steps, ""])])
 
 
 class Count(unittest.TextTestResult):

@@ -63,7 +63,7 @@ InMap c x = (c .bot .0 ≤ x) × (x < c .bot .0 + mapBytes c)
 abbrev pub InSafeStack : Config → ℕ → Type 0
 InSafeStack c x = (c .safe .0 ≤ x) × (x < c .top .0)
 
--- All that is assumed: "after an accepted set-up", and "in which no trusted store lands in the map or the safe stack area"
+-- All that is assumed: "after an accepted set-up", and "where no store by the trusted domain lands in the map or the safe stack area"
 abbrev pub Assumed : History → Type 0
 Assumed (setUp c ram) = Says (setUpOf c ram .answer) 0 0
 Assumed (h then o) = Assumed h × ((x : ℕ) → StoredBy h o x trusted → InMap (configOf h) x ⊎ InSafeStack (configOf h) x → ⊥)

@@ -1,6 +1,6 @@
 -- The incident: a module freed a segment, another module got it, and the first went on storing to it.
--- "A module that freed a segment, which another module then got, cannot change one byte of it, whatever it and others do, until that
--- module gives it up." The theorems are `out-of-reach` and `incident` of proofs/Incident.antt.
+-- Here: a module that freed a segment, which another module then got, cannot change one byte of it, whatever it and others do, until that
+-- module gives it up. The theorems are `out-of-reach` and `incident` of proofs/Incident.antt.
 -- No axiom.
 use Prim.Native.Nat.{ℕ}
 use mathlib.Core.Path.{_≡_}

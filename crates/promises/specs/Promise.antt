@@ -1,6 +1,6 @@
--- Demand 3: "For any sequence of operations after an accepted set-up, refused ones included, in which no trusted store lands in the map or
--- the safe stack area:" what is promised, with the demand's words above each part. `promise` of proofs/Theorem.antt proves it.
--- Lib.antt says how the signs are read.
+-- Demand 3: "Take any sequence of the six operations after an accepted set-up, refused ones included, each given the state and RAM the last
+-- one left, where no store by the trusted domain lands in the map or the safe stack area." What is promised then, with the demand's words
+-- above each part. `promise` of proofs/Theorem.antt proves it. Lib.antt says how the signs are read.
 -- No axiom.
 use Prim.Native.Nat.{ℕ, _+_, _*_, _≤_, _<_}
 use mathlib.Core.Path.{_≡_}
@@ -58,7 +58,7 @@ abbrev pub AbovePointer : OpenCall → ℕ → Type 0
 AbovePointer k x = (e : ℕ) × (p : RamByte) × (k .kind ≡ cross e p) × (p .0 < x) × (x < ramBytes)
 
 pub record Promise (h : History) : Type 0 where
-  -- "the map shows exactly the segments that the accepted requests leave": in address order;
+  -- "The map then shows exactly the segments that the accepted requests leave": in address order;
   pub mapShows : shown (configOf h) (ramOf h) ≡ ledger h
   -- so each heap block has the code that these segments give it,
   pub heapCodes : (k : ℕ) → IsHeapBlock (configOf h) k → codeAfter h k ≡ codeBy (configOf h) (ledger h) k
@@ -78,22 +78,23 @@ pub record Promise (h : History) : Type 0 where
   -- a free or a change of owner that is accepted is of a segment of the domain that asks, and its value is how many blocks that has
   pub freed : (a : RamByte) (n : ℕ) → Says (answerTo h (free a)) 0 n → OwnSegment h a n
   pub changed : (a : RamByte) (d n : ℕ) → Says (answerTo h (change a d)) 0 n → OwnSegment h a n
-  -- "the safe stack holds exactly the open calls, oldest first": the bytes from safe to the safe pointer are their frames
+  -- "The safe stack holds exactly the accepted calls not yet returned, oldest first": these are the open calls, and the bytes from safe to
+  -- the safe pointer are their frames
   pub safeStack : slice (configOf h .safe .0) (stateOf h .safepointer .0) (ramOf h) ≡ framesOf (openCalls h)
   -- and the current domain and the stack bound are those that the open calls leave, the trusted domain and 4095 if there are none
   pub current : domainOf h ≡ domainBy (openCalls h)
   pub bound : stateOf h .bound ≡ boundBy (openCalls h)
-  -- "a return is refused only when there are none, and otherwise restores its own call's address, domain and bound"
+  -- "a return is refused only when there are none, and otherwise restores its own call's address, domain and stack bound"
   pub returns : Returns (openCalls h) (after (h then return))
-  -- "a segment's bytes change only by stores of its domain or the trusted one": if the operation asked next changes one, it is such a store,
-  -- whether the segment was there before or is made by that operation;
+  -- "While a segment stays with one domain, its bytes change only by stores made when that domain or the trusted one is current": if the
+  -- operation asked next changes one, it is such a store, whether the segment was there before or is made by that operation;
   pub segmentStep : (g : Segment) (o : Operation) → (g ∈ ledger h) ⊎ (g ∈ ledger (h then o)) → (x : ℕ) → InSegment g x
       → byteAt (h then o) x ≢ byteAt h x → StoredByHolder g x h o
   -- and over any stretch up to now in which the segment was made or stayed, a byte of it is what it was if no such store was made to it
   pub segmentStretch : (g : Segment) (x : ℕ) → InSegment g x → (from : History)
       → Stretch (λ l o. ((g ∈ ledger l) ⊎ (g ∈ ledger (l then o))) × (StoredByHolder g x l o → ⊥)) from h → byteAt h x ≡ byteAt from x
-  -- "while a cross-domain call is open, stack bytes above its pointer change only by trusted stores": if the operation asked next changes
-  -- one, it is a trusted store, whether the call was open before or is opened by that operation;
+  -- "While a cross-domain call is open, stack bytes above the pointer it was made with change only by trusted stores": if the operation
+  -- asked next changes one, it is a trusted store, whether the call was open before or is opened by that operation;
   pub stackStep : (k : OpenCall) (o : Operation) → (k ∈ openCalls h) ⊎ (k ∈ openCalls (h then o)) → (x : ℕ) → AbovePointer k x
       → byteAt (h then o) x ≢ byteAt h x → StoredBy h o x trusted
   -- and over any stretch up to now in which the call was opened or open, whatever calls and returns lie between, such a byte is what it

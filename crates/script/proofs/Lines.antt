@@ -14,7 +14,8 @@ use Rattle.rules.specs.declared.Operation.{Operation}
 use Rattle.rules.specs.declared.Read.{Read}
 use Rattle.rules.specs.declared.Read.the-variants.{Whole, Cut, End}
 use Rattle.rules.specs.Answers.{Given, Gives}
-use Rattle.rules.specs.Script.{cutText, upTo, operationNumbered, operationAt, operationOf, lineOf, onRead, linesFrom}
+use Rattle.rules.specs.Operations.{lending, operationOf}
+use Rattle.rules.specs.Script.{cutText, upTo, operationNumbered, operationAt, lineOf, onRead, linesFrom}
 use Rattle.laws.proofs.Tests.{byTest}
 use Rattle.script.specs.Text.{Wrote, handed}
 use Rattle.script.specs.Run.{linesAt}
@@ -68,7 +69,7 @@ module _ (input table : List ℕ) where
   -- the lines behind an operation that was read, with a bound on their number
   abbrev behind : ℕ → State → List ℕ → ℕ → Operation → ℕ → List ℕ
   behind left s ram count op next =
-      let g = operationOf s ram table op in
+      let g = operationOf s ram (lending table) op in
       lineOf count g ++ linesFrom left input table (g .state) (g .ram) next (count + 1)
 
   lines-past : (left : ℕ) (s : State) (ram : List ℕ) (at count : ℕ) → length input ≤ at → linesFrom left input table s ram at count ≡ []
@@ -93,7 +94,7 @@ module _ (input table : List ℕ) where
       same-behind at (behind f s ram count) (behind g s ram count)
       (λ op next e.
       let (h, l) = whole-within input at op next e in
-      let o = operationOf s ram table op in
+      let o = operationOf s ram (lending table) op in
       ap (λ (rest : List ℕ). lineOf count o ++ rest) (enough f g (o .state) (o .ram) next (count + 1) (omega arith) (omega arith)))
       (operationAt input at) refl
 
@@ -114,12 +115,12 @@ module _ (input table : List ℕ) where
         some (length input - at) (omega arith) ∙ rw e
 
     pub lines-whole : (op : Operation) (next : ℕ) → operationAt input at ≡ Whole op next
-        → let g = operationOf s ram table op in
+        → let g = operationOf s ram (lending table) op in
         linesAt input table s ram at count ≡ lineOf count g ++ linesAt input table (g .state) (g .ram) next (count + 1)
     unfolding linesAt
     lines-whole op next e =
         let (h, l) = whole-within input at op next e in
-        let g = operationOf s ram table op in
+        let g = operationOf s ram (lending table) op in
         some (length input - at) (omega arith)
         ∙ ap (λ (r : Read). onRead r (behind (length input - at - 1) s ram count)) e
         ∙ ap (λ (rest : List ℕ). lineOf count g ++ rest)
@@ -132,11 +133,11 @@ line-given count o ram g (a, s, r) = rw (a, s)
 
 -- one turn: the line of the operation at a place is written, and then the lines behind it
 pub turn : (input table : List ℕ) (s : State) (ram : List ℕ) (at count : ℕ) (op : Operation) (next : ℕ) → operationAt input at ≡ Whole op next
-    → (o : Outcome) (ram′ : List ℕ) → Gives o ram′ (operationOf s ram table op)
+    → (o : Outcome) (ram′ : List ℕ) → Gives o ram′ (operationOf s ram (lending table) op)
     → {l m n : List ℕ} {p q r : ℕ} → Wrote l m p (lineOf count (handed o)) q
     → Wrote m n q (linesAt input table (o .state) ram′ next (count + 1)) r
     → Wrote l n p (linesAt input table s ram at count) r
 turn input table s ram at count op next e o ram′ gives v w =
-    let g = operationOf s ram table op in
+    let g = operationOf s ram (lending table) op in
     rw (lines-whole input table s ram at count op next e)
     (wrote-then (rw (line-given count o ram′ g gives) at v) (rw (gives .1, gives .2) at w))

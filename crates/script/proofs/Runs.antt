@@ -15,7 +15,7 @@ use Rattle.rules.specs.declared.Outcome.{Outcome}
 use Rattle.rules.specs.Memory.{ramBytes}
 use Rattle.rules.specs.Answers.{Given, Gives, numberOf}
 use Rattle.rules.specs.SetUp.{setUpOf}
-use Rattle.rules.specs.Script.{mostBytes, configAt, tableAt, headerGood, operationsPlace, longText, badText, setUpText, runText, scriptText}
+use Rattle.rules.specs.Script.{mostBytes, headerConfig, tableAt, headerGood, operationsPlace, longText, badText, setUpText, runText, scriptText}
 use Rattle.script.specs.Text.{Wrote, handed}
 use Rattle.script.specs.Run.{linesAt, textMost, printed, Printed}
 
@@ -63,17 +63,17 @@ module _ (g : Given) (lines : List ℕ) (o : Outcome) (same : o .answer ≡ g .a
 
 -- set-up, as it was run: on the configuration that was read and on zeros
 module _ (input : List ℕ) {config : Config} {ram : List ℕ} (o : Outcome)
-    (read : config ≡ configAt input) (gives : Gives o ram (setUpOf config (replicate ramBytes 0))) where
-  given : Gives o ram (setUpOf (configAt input) (replicate ramBytes 0))
+    (read : config ≡ headerConfig input) (gives : Gives o ram (setUpOf config (replicate ramBytes 0))) where
+  given : Gives o ram (setUpOf (headerConfig input) (replicate ramBytes 0))
   given = subst (λ (c : Config). Gives o ram (setUpOf c (replicate ramBytes 0))) read gives
 
   pub run-refused : numberOf (o .answer) ≢ 0 → runText input ≡ setUpText (handed o)
   unfolding runText
-  run-refused n = text-refused (setUpOf (configAt input) (replicate ramBytes 0)) _ o (given .0) n
+  run-refused n = text-refused (setUpOf (headerConfig input) (replicate ramBytes 0)) _ o (given .0) n
 
   pub run-done : numberOf (o .answer) ≡ 0 → (table : List ℕ) → table ≡ tableAt input
       → runText input ≡ setUpText (handed o) ++ linesAt input table (o .state) ram (operationsPlace input) 1
   unfolding runText linesAt
   run-done n table t =
-      text-done (setUpOf (configAt input) (replicate ramBytes 0)) _ o (given .0) n
+      text-done (setUpOf (headerConfig input) (replicate ramBytes 0)) _ o (given .0) n
       ∙ rw (t, given .1, given .2)

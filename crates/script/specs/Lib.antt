@@ -1,4 +1,3 @@
 -- What the contracts of this crate cite beside the rules.
-pub mod Range
 pub mod Text
 pub mod Run

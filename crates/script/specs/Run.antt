@@ -13,9 +13,9 @@ use Rattle.script.specs.Text.{lineMost, setUpMost}
 unfoldable pub linesAt : List ℕ → List ℕ → State → List ℕ → ℕ → ℕ → List ℕ
 linesAt input table s ram at count = linesFrom (length input - at) input table s ram at count
 
--- the most that a script of at most 65,536 bytes prints: no operation is shorter than a byte
+-- the most that a script of at most 65,536 bytes prints: no header is shorter than that of version 1, and no operation than a byte
 abbrev pub textMost : ℕ
-textMost = setUpMost + lineMost * (mostBytes - pairsPlace)
+textMost = setUpMost + lineMost * (mostBytes - pairsPlace 1)
 
 -- what is printed to a place of room bytes: the script's text; nothing, where some script's text would not fit
 unfoldable pub printed : List ℕ → ℕ → List ℕ

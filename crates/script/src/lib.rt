@@ -1,18 +1,14 @@
 // Section 7: a script, from the bytes that are read to the text that is printed.
 ghost use Prim.Native.Nat.{_+_, _*_, _-_, _≤_};
 ghost use lib.ListN.{length};
-ghost use Rattle.rules.specs.Answers.{Gives};
-ghost use Rattle.rules.specs.Script.{mostBytes, pairsPlace, operationsPlace, operationOf};
+ghost use Rattle.rules.specs.Script.{mostBytes, operationsPlace};
 ghost use Rattle.script.specs.Text.{Wrote, lineMost};
 ghost use Rattle.script.specs.Run.{linesAt, printed, Printed};
 
 mod header;
-mod incoming;
 mod operation;
 mod text;
 
-use rules::Operation;
-use rules::Outcome;
 use rules::Read;
 use rules::State;
 
@@ -24,27 +20,6 @@ const MOST_BYTES: usize = 65536;
 // Enough for the text of any script: the lines of set-up, and a line for each byte behind the header.
 pub const MOST_TEXT: usize = 2357586;
 
-// An operation, carried out.
-fn carry_out(state: State, ram: &mut [u8], table: &[u16], op: Operation) -> Outcome
-    ensures { λ r. ⌜ Gives r (now (ram .exit)) (operationOf state (now (ram .entry)) (now (table .entry)) op) ⌝ }
-{
-    match op {
-        Operation::Store(address, byte) => runtime::store(state, ram, address, byte),
-        Operation::Call(target, site, pointer) => runtime::call(
-            state,
-            ram,
-            table,
-            target,
-            site,
-            pointer,
-        ),
-        Operation::Return => runtime::ret(state, ram),
-        Operation::Malloc(size) => runtime::malloc(state, ram, size),
-        Operation::Free(address) => runtime::free(state, ram, address),
-        Operation::Change(address, domain) => runtime::change(state, ram, address, domain),
-    }
-}
-
 // The lines of the operations, from the first to the end or to one that is unknown or cut.
 fn put_lines(
     input: &[u8],
@@ -54,7 +29,7 @@ fn put_lines(
     start: usize,
     first: State,
 ) -> usize
-    requires { ⌜ (pairsPlace ≤ length (now input)) × (operationsPlace (now input) ≤ length (now input)) × (length (now input) ≤ mostBytes) × (start + lineMost * (length (now input) - pairsPlace) ≤ length (now out)) ⌝ }
+    requires { ⌜ (operationsPlace (now input) ≤ length (now input)) × (length (now input) ≤ mostBytes) × (start + lineMost * (length (now input) - operationsPlace (now input)) ≤ length (now out)) ⌝ }
     ensures { λ r. ⌜ Wrote (now (out .entry)) (now (out .exit)) start (linesAt (now (input .entry)) (now (table .entry)) first (now (ram .entry)) (operationsPlace (now (input .entry))) 1) r ⌝ }
 {
     let mut state = first;
@@ -67,7 +42,7 @@ fn put_lines(
             Read::End => return at,
             Read::Cut => return text::put_text(out, at, b"cut\n"),
             Read::Whole(op, next) => {
-                let o = carry_out(state, ram, table, op);
+                let o = runtime::operate(state, ram, table, op);
                 at = text::put_line(out, at, count, o);
                 state = o.state;
                 place = next;
@@ -94,7 +69,7 @@ pub fn run(input: &[u8], out: &mut [u8]) -> usize
     let mut table = [0u16; TABLE_WORDS];
     header::fill_table(input, &mut table);
     let mut ram = [0u8; RAM_BYTES];
-    let o = runtime::set_up(header::config_at(input), &mut ram);
+    let o = runtime::set_up(header::header_config(input), &mut ram);
     let at = text::put_set_up(out, o);
     let answer = o.answer;
     if runtime::numbers::number_of(answer) != 0 {

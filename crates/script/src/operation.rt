@@ -4,11 +4,11 @@ ghost use Prim.Native.Nat.{_+_, _<_};
 ghost use lib.ListN.{length, getD};
 ghost use Rattle.rules.specs.Code.{flashWord};
 ghost use Rattle.rules.specs.State.{ramByte};
-ghost use Rattle.rules.specs.Return.{wordAt};
+ghost use Rattle.rules.specs.Bytes.{wordAt};
 ghost use Rattle.rules.specs.Script.{upTo, operationAt};
-use crate::incoming::flash_word_at;
-use crate::incoming::ram_byte_at;
-use crate::incoming::word_at;
+use codec::flash_word_at;
+use codec::ram_byte_at;
+use codec::word_at;
 use rules::Operation;
 use rules::Read;
 

@@ -20,7 +20,7 @@ use Rattle.map.proofs.segment_blocks.Tie as tie
 
 owner : (c : tie.Start) → isDomain (c .args .config) (c .args .domain) ≡ true
 unfolding isDomain
-owner c = rw (← c .pre .1 .1 .1) (ownerOf-domain _ _ (code-lt _ _ _))
+owner c = rw (← c .pre .1 .1 .1) (ownerOf-domain (layoutOf (c .args .config)) _ (code-lt (layoutOf (c .args .config)) (c .args .ram .now) (c .args .k .0)))
 
 -- where the heap ends, and the code of a block that continues the segment
 end-is : (c : tie.After-block-of) → c .block-of .result .0 ≡ safeBlock (c .before .before .args .config)
@@ -84,7 +84,7 @@ blocks-alike-requires c κs =
     let ends = end-is (c .before .before .before .before .before .before .before .before .before .before) in
     let all : next + (2 - next % 2) % 2 + (end - (next + (2 - next % 2) % 2)) ≡ end = omega (arith, fits (c .before .before .before .before .before .before)) in
     rw (c .before .before .before .before .further2 .ensures, c .before .before .before .before .before .to-whole .ensures, c .before .before .before .before .before .before .before .before .further .ensures)
-    (pre .0, (omega arith, (rw all (room _ (pre .1 .0) _ (omega (arith, ends, safeBlock≤blocks (goodConfig-facts _ (pre .1 .0))))), rw (c .before .before .before .before .before .before .before .before .before .later-code .ensures) (laterCode-lt _ _ (domain-at _ _ (owner (c .before .before .before .before .before .before .before .before .before .before .before .before)))))))
+    (pre .0, (omega arith, (rw all (room _ (pre .1 .0) _ (omega (arith, ends, safeBlock≤blocks (goodConfig-facts _ (pre .1 .0))))), rw (c .before .before .before .before .before .before .before .before .before .later-code .ensures) (laterCode-lt (layoutOf (c .before .before .before .before .before .before .before .before .before .before .before .before .args .config)) _ (domain-at _ _ (owner (c .before .before .before .before .before .before .before .before .before .before .before .before)))))))
 
 add-result : tie.Need-add-result
 unfolding toWhole perByte

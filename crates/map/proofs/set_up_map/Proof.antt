@@ -32,7 +32,7 @@ fill-bytes-requires : tie.Need-fill-bytes-requires
 unfolding blocks
 fill-bytes-requires c κs =
     rw (c .before .map-bytes-for .ensures, c .later-code .ensures, c .before .before .before .block-of3 .ensures)
-    (c .before .before .before .before .before .before .before .pre .0, (room _ (c .before .before .before .before .before .before .before .pre .1) _ (omega arith), laterCode-lt _ trusted (domain-at _ trusted (trusted-domain _))))
+    (c .before .before .before .before .before .before .before .pre .0, (room _ (c .before .before .before .before .before .before .before .pre .1) _ (omega arith), laterCode-lt _ trusted (domain-at (c .before .before .before .before .before .before .before .args .config) trusted (trusted-domain (c .before .before .before .before .before .before .before .args .config)))))
 
 first-block-requires : tie.Need-first-block-requires
 first-block-requires c κs = search needs
@@ -44,7 +44,7 @@ set-even-requires : tie.Need-set-even-requires
 unfolding mapDigit perByte
 set-even-requires c κs =
     rw (c .before .first-block .ensures, c .start-code .ensures)
-    (c .before .before .before .before .before .fill-bytes .kept .1 .0 ∙ c .before .before .before .before .before .before .before .before .before .before .before .before .before .pre .0, (code<ram _ (c .before .before .before .before .before .before .before .before .before .before .before .before .before .pre .1) 0 (omega arith), (omega arith, startCode-lt _ trusted (domain-at _ trusted (trusted-domain _)))))
+    (c .before .before .before .before .before .fill-bytes .kept .1 .0 ∙ c .before .before .before .before .before .before .before .before .before .before .before .before .before .pre .0, (code<ram _ (c .before .before .before .before .before .before .before .before .before .before .before .before .before .pre .1) 0 (omega arith), (omega arith, startCode-lt _ trusted (domain-at (c .before .before .before .before .before .before .before .before .before .before .before .before .before .args .config) trusted (trusted-domain (c .before .before .before .before .before .before .before .before .before .before .before .before .before .args .config))))))
 
 sub-fill : tie.Need-sub-fill
 unfolding heapBlock safeBlock
@@ -64,7 +64,7 @@ set-first-requires : tie.Need-set-first-requires
 unfolding safeBlock
 set-first-requires c κs =
     rw (c .before .before .before .before .before .before .before .before .before .before .before .before .before .before .before .before .before .before .before .before .before .block-of2 .ensures, c .start-code2 .ensures)
-    (c .before .before .before .before .fill .kept .1 .0 ∙ c .before .before .before .before .before .before .before .before .before .before .set-even .kept .1 .0 ∙ c .before .before .before .before .before .before .before .before .before .before .before .before .before .before .before .before .fill-bytes .kept .1 .0 ∙ c .before .before .before .before .before .before .before .before .before .before .before .before .before .before .before .before .before .before .before .before .before .before .before .before .pre .0, (λ _. code<ram _ (c .before .before .before .before .before .before .before .before .before .before .before .before .before .before .before .before .before .before .before .before .before .before .before .before .pre .1) _ (omega arith), startCode-lt _ trusted (domain-at _ trusted (trusted-domain _))))
+    (c .before .before .before .before .fill .kept .1 .0 ∙ c .before .before .before .before .before .before .before .before .before .before .set-even .kept .1 .0 ∙ c .before .before .before .before .before .before .before .before .before .before .before .before .before .before .before .before .fill-bytes .kept .1 .0 ∙ c .before .before .before .before .before .before .before .before .before .before .before .before .before .before .before .before .before .before .before .before .before .before .before .before .pre .0, (λ _. code<ram _ (c .before .before .before .before .before .before .before .before .before .before .before .before .before .before .before .before .before .before .before .before .before .before .before .before .pre .1) _ (omega arith), startCode-lt _ trusted (domain-at (c .before .before .before .before .before .before .before .before .before .before .before .before .before .before .before .before .before .before .before .before .before .before .before .before .args .config) trusted (trusted-domain (c .before .before .before .before .before .before .before .before .before .before .before .before .before .before .before .before .before .before .before .before .before .before .before .before .args .config)))))
 
 to-whole-requires : tie.Need-to-whole-requires
 to-whole-requires c κs = search needs

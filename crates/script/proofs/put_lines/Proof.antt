@@ -6,7 +6,7 @@ use native.Mathlib.Omega.{arith}
 use lib.ListN.{length}
 use borrow.Author.Needs.{needs}
 use Rattle.rules.specs.declared.Read.the-variants.{Whole, Cut, End}
-use Rattle.rules.specs.Script.{operationAt, mostBytes, pairsPlace}
+use Rattle.rules.specs.Script.{operationsPlace, operationAt, mostBytes}
 use Rattle.script.specs.Text.{Wrote, lineMost}
 use Rattle.script.specs.Run.{linesAt}
 use Rattle.script.proofs.Lines.{whole-within, cut-within, lines-end, lines-cut, turn}
@@ -20,7 +20,7 @@ Inv-loop input ram₀ table out₀ start state₀ place₀ count₀ at₀ t15 ra
     → Wrote out after at (linesAt input table state ram place count) r
     → Wrote out₀ after at₀ (linesAt input table state₀ ram₀ place₀ count₀) r)
     × (place ≤ length input)
-    × (count + (length input - place) ≤ mostBytes - pairsPlace + 1)
+    × (count + (length input - place) ≤ mostBytes - operationsPlace input + 1)
     × (at + lineMost * (length input - place) ≤ length out)
     × (length out ≡ length out₀)
     × (length ram ≡ length ram₀)
@@ -88,8 +88,8 @@ returns-2 c =
 enum-known-read : tie.Need-enum-known-read Inv-loop μ-loop
 enum-known-read c = search needs
 
-carry-out-requires : tie.Need-carry-out-requires Inv-loop μ-loop
-carry-out-requires c κs = search needs
+operate-requires : tie.Need-operate-requires Inv-loop μ-loop
+operate-requires c κs = search needs
 
 put-line-requires : tie.Need-put-line-requires Inv-loop μ-loop
 put-line-requires c κs =
@@ -126,12 +126,12 @@ loop-again c =
     let here = read-within c in
     let w = c .before .before .before .put-line .ensures in
     let s = step lineMost (line-most _ _) w in (
-      (λ after r v. l .inv .0 after r (turn _ _ (l .state) (l .ram) (l .place) (l .count) _ _ (whole c) _ _ (c .before .before .before .before .before .before .before .carry-out .ensures) w v)),
+      (λ after r v. l .inv .0 after r (turn _ _ (l .state) (l .ram) (l .place) (l .count) _ _ (whole c) _ _ (c .before .before .before .before .before .before .before .operate .ensures) w v)),
       here .1,
       omega (arith, here .0, here .1, l .inv .2),
       omega (arith, here .0, here .1, l .inv .3, s .near, s .kept),
       s .kept ∙ l .inv .4,
-      c .before .before .before .before .before .before .before .carry-out .kept .1 .0 ∙ l .inv .5,
+      c .before .before .before .before .before .before .before .operate .kept .1 .0 ∙ l .inv .5,
     )
 
 pub put-lines-spec : {M : Type 1} → statement M
@@ -154,7 +154,7 @@ put-lines-spec =
     same-length-4
     returns-2
     enum-known-read
-    carry-out-requires
+    operate-requires
     put-line-requires
     add-count
     loop-less

@@ -56,8 +56,8 @@ slice-aggregate-fill-table c = search needs
 fill-table-requires : tie.Need-fill-table-requires
 fill-table-requires c κs = (sym (c .before .before .header-good .ensures) ∙ not-false _ (c .before .if3 .left), refl)
 
-config-at-requires : tie.Need-config-at-requires
-config-at-requires c κs = header-facts (c .before .before .before .before .before .before .before .before .before .args .input .now) (sym (c .before .before .before .before .header-good .ensures) ∙ not-false _ (c .before .before .before .if3 .left)) .0
+header-config-requires : tie.Need-header-config-requires
+header-config-requires c κs = omega (arith, header-facts (c .before .before .before .before .before .before .before .before .before .args .input .now) (sym (c .before .before .before .before .header-good .ensures) ∙ not-false _ (c .before .before .before .if3 .left)) .0)
 
 slice-aggregate-set-up : tie.Need-slice-aggregate-set-up
 slice-aggregate-set-up c = search needs
@@ -80,7 +80,7 @@ returns-4 c =
     printed-first
     (printed-text input (length (c .before .before .before .before .before .before .before .before .before .before .before .before .before .before .before .before .before .before .before .args .out .now)) (c .before .before .before .before .before .before .before .before .before .before .before .before .before .before .before .before .if1 .left)
     ∙ text-good input (c .before .before .before .before .before .before .before .before .before .before .before .before .before .before .before .if2 .left) (sym (c .before .before .before .before .before .before .before .before .before .before .before .before .before .before .header-good .ensures) ∙ not-false _ (c .before .before .before .before .before .before .before .before .before .before .before .before .before .if3 .left))
-    ∙ run-refused input (c .before .before .before .before .before .before .before .set-up .result) (c .before .before .before .before .before .before .before .before .before .config-at .ensures) (c .before .before .before .before .before .before .before .set-up .ensures) (λ e. c .if4 .taken (c .before .number-of .ensures ∙ e)))
+    ∙ run-refused input (c .before .before .before .before .before .before .before .set-up .result) (c .before .before .before .before .before .before .before .before .before .header-config .ensures) (c .before .before .before .before .before .before .before .set-up .ensures) (λ e. c .if4 .taken (c .before .number-of .ensures ∙ e)))
     (c .before .before .before .before .put-set-up .ensures)
 
 slice-aggregate-put-lines : tie.Need-slice-aggregate-put-lines
@@ -91,9 +91,9 @@ slice-aggregate-put-lines-2 c = search needs
 
 put-lines-requires : tie.Need-put-lines-requires
 put-lines-requires c κs =
-    let (h, l, g) = header-facts (c .before .before .before .before .before .before .before .before .before .before .before .before .before .before .before .before .before .before .before .before .before .before .before .args .input .now) (sym (c .before .before .before .before .before .before .before .before .before .before .before .before .before .before .before .before .before .before .header-good .ensures) ∙ not-false _ (c .before .before .before .before .before .before .before .before .before .before .before .before .before .before .before .before .before .if3 .left)) in
+    let (l, g) = header-facts (c .before .before .before .before .before .before .before .before .before .before .before .before .before .before .before .before .before .before .before .before .before .before .before .args .input .now) (sym (c .before .before .before .before .before .before .before .before .before .before .before .before .before .before .before .before .before .before .header-good .ensures) ∙ not-false _ (c .before .before .before .before .before .before .before .before .before .before .before .before .before .before .before .before .before .if3 .left)) in
     let s = step setUpMost (set-up-most (handed (c .before .before .before .before .before .before .before .before .before .before .before .set-up .result))) (c .before .before .before .before .before .before .before .before .put-set-up .ensures) in
-    (h, l, c .before .before .before .before .before .before .before .before .before .before .before .before .before .before .before .before .before .before .before .if2 .left, omega (arith, h, c .before .before .before .before .before .before .before .before .before .before .before .before .before .before .before .before .before .before .before .if2 .left, c .before .before .before .before .before .before .before .before .before .before .before .before .before .before .before .before .before .before .before .before .if1 .left, s .near, s .kept))
+    (l, c .before .before .before .before .before .before .before .before .before .before .before .before .before .before .before .before .before .before .before .if2 .left, omega (arith, l, c .before .before .before .before .before .before .before .before .before .before .before .before .before .before .before .before .before .before .before .if2 .left, c .before .before .before .before .before .before .before .before .before .before .before .before .before .before .before .before .before .before .before .before .if1 .left, s .near, s .kept))
 
 same-length-4 : tie.Need-same-length-4
 same-length-4 c = search needs
@@ -104,7 +104,7 @@ returns-5 c =
     printed-first
     (printed-text input (length (c .before .before .before .before .before .before .before .before .before .before .before .before .before .before .before .before .before .before .before .before .before .before .before .before .before .before .before .args .out .now)) (c .before .before .before .before .before .before .before .before .before .before .before .before .before .before .before .before .before .before .before .before .before .before .before .before .if1 .left)
     ∙ text-good input (c .before .before .before .before .before .before .before .before .before .before .before .before .before .before .before .before .before .before .before .before .before .before .before .if2 .left) (sym (c .before .before .before .before .before .before .before .before .before .before .before .before .before .before .before .before .before .before .before .before .before .before .header-good .ensures) ∙ not-false _ (c .before .before .before .before .before .before .before .before .before .before .before .before .before .before .before .before .before .before .before .before .before .if3 .left))
-    ∙ run-done input (c .before .before .before .before .before .before .before .before .before .before .before .before .before .before .before .set-up .result) (c .before .before .before .before .before .before .before .before .before .before .before .before .before .before .before .before .before .config-at .ensures) (c .before .before .before .before .before .before .before .before .before .before .before .before .before .before .before .set-up .ensures) (sym (c .before .before .before .before .before .before .before .before .before .number-of .ensures) ∙ c .before .before .before .before .before .before .before .before .if4 .left) _ (c .before .before .before .before .before .before .before .before .before .before .before .before .before .before .before .before .before .before .before .fill-table .ensures))
+    ∙ run-done input (c .before .before .before .before .before .before .before .before .before .before .before .before .before .before .before .set-up .result) (c .before .before .before .before .before .before .before .before .before .before .before .before .before .before .before .before .before .header-config .ensures) (c .before .before .before .before .before .before .before .before .before .before .before .before .before .before .before .set-up .ensures) (sym (c .before .before .before .before .before .before .before .before .before .number-of .ensures) ∙ c .before .before .before .before .before .before .before .before .if4 .left) _ (c .before .before .before .before .before .before .before .before .before .before .before .before .before .before .before .before .before .before .before .fill-table .ensures))
     (wrote-then (c .before .before .before .before .before .before .before .before .before .before .before .before .put-set-up .ensures) (c .before .before .before .put-lines .ensures))
 
 pub run-spec : {M : Type 1} → statement M
@@ -123,7 +123,7 @@ run-spec =
     returns-3
     slice-aggregate-fill-table
     fill-table-requires
-    config-at-requires
+    header-config-requires
     slice-aggregate-set-up
     set-up-requires
     put-set-up-requires

@@ -1,39 +1,48 @@
 -- `script::header::header_good` meets its contract. Assumes nothing.
-use mathlib.Core.Path.{sym, _∙_}
-use borrow.Author.Tests.{not-true, not-false}
+use mathlib.Core.Path.{_∙_}
+use mathlib.Core.Bool.{and-false}
+use borrow.Author.Tests.{lt-leb, le-leb}
+use Rattle.laws.proofs.Tests.{failed, passed}
 use borrow.Author.Needs.{needs}
-use Rattle.script.proofs.Headers.{header-short, header-unmarked, header-cut, header-whole}
 use Rattle.script.proofs.header.header_good.Statement.{statement}
 use Rattle.script.proofs.header.header_good.Tie as tie
 
 returns : tie.Need-returns
-returns c = sym (header-short (c .before .before .args .input .now) (c .if1 .taken))
+returns c = simp (lt-leb _ _ (c .if1 .taken))
 
 mark-good-requires : tie.Need-mark-good-requires
 mark-good-requires c κs = search needs
 
 returns-2 : tie.Need-returns-2
-returns-2 c =
-    sym (header-unmarked (c .before .before .before .before .args .input .now) (c .before .before .if1 .left) (sym (c .before .mark-good .ensures) ∙ not-true _ (c .if2 .taken)))
+returns-2 c = simp (failed (c .before .mark-good .ensures) (c .if2 .taken), and-false)
+
+version-at-requires : tie.Need-version-at-requires
+version-at-requires c κs = search needs
+
+pairs-place-requires : tie.Need-pairs-place-requires
+pairs-place-requires c κs = search needs
+
+returns-3 : tie.Need-returns-3
+returns-3 c = simp (lt-leb _ _ (rw (c .before .pairs-place .ensures) at (c .if3 .taken)), and-false)
 
 operations-place-requires : tie.Need-operations-place-requires
 operations-place-requires c κs = search needs
 
-returns-3 : tie.Need-returns-3
-returns-3 c =
-    sym
-    (header-cut (c .before .before .before .before .before .before .args .input .now) (c .before .before .before .before .if1 .left) (sym (c .before .before .before .mark-good .ensures) ∙ not-false _ (c .before .before .if2 .left))
-    (rw (c .before .operations-place .ensures) at (c .if3 .taken)))
+returns-4 : tie.Need-returns-4
+returns-4 c = simp (lt-leb _ _ (rw (c .before .operations-place .ensures) at (c .if4 .taken)), and-false)
 
 indices-good-requires : tie.Need-indices-good-requires
-indices-good-requires c κs = (c .before .before .before .before .if1 .left, rw (c .before .operations-place .ensures) at (c .if3 .left))
+indices-good-requires c κs = search needs
 
-returns-4 : tie.Need-returns-4
-returns-4 c =
+returns-5 : tie.Need-returns-5
+returns-5 c =
     c .indices-good .ensures
-    ∙ sym
-    (header-whole (c .before .before .before .before .before .before .before .args .input .now) (c .before .before .before .before .before .if1 .left) (sym (c .before .before .before .before .mark-good .ensures) ∙ not-false _ (c .before .before .before .if2 .left))
-    (rw (c .before .before .operations-place .ensures) at (c .before .if3 .left)))
+    ∙ simp (
+      le-leb _ _ (c .before .before .before .before .before .before .before .before .if1 .left),
+      passed (c .before .before .before .before .before .before .before .mark-good .ensures) (c .before .before .before .before .before .before .if2 .left),
+      le-leb _ _ (rw (c .before .before .before .before .pairs-place .ensures) at (c .before .before .before .if3 .left)),
+      le-leb _ _ (rw (c .before .before .operations-place .ensures) at (c .before .if4 .left)),
+    )
 
 pub header-good-spec : {M : Type 1} → statement M
 header-good-spec =
@@ -42,7 +51,10 @@ header-good-spec =
     returns
     mark-good-requires
     returns-2
-    operations-place-requires
+    version-at-requires
+    pairs-place-requires
     returns-3
+    operations-place-requires
+    returns-4
     indices-good-requires
-    returns-4)
+    returns-5)

@@ -1,16 +1,17 @@
 -- `script::header::indices_good` meets its contract. The loop: what is left decides. Assumes nothing.
 use Prim.Native.Nat.{_+_, _*_, _≤_}
-use mathlib.Core.Path.{_≡_, sym, ap, _∙_}
+use mathlib.Core.Path.{_≡_, sym, _∙_}
 use native.Mathlib.Omega.{arith}
 use lib.ListN.{length}
 use borrow.Author.Needs.{needs}
-use Rattle.rules.specs.Script.{pairsPlace, countAt, indicesGood}
+use Rattle.rules.specs.Script.{versionAt, pairsPlace, countAt, indicesGood}
 use Rattle.script.proofs.Headers.{indices-none, indices-next, indices-over}
 use Rattle.script.proofs.header.indices_good.Statement.{statement}
 use Rattle.script.proofs.header.indices_good.Tie as tie
 
 abbrev Inv-loop : tie.InvT-loop
-Inv-loop input left₀ at₀ left at = (indicesGood input pairsPlace (countAt input) ≡ indicesGood input at left) × (at + 4 * left ≤ length input)
+Inv-loop input left₀ at₀ left at =
+    (indicesGood input (pairsPlace (versionAt input)) (countAt input) ≡ indicesGood input at left) × (at + 4 * left ≤ length input)
 
 abbrev μ-loop : tie.MeasureT-loop
 μ-loop input left₀ at₀ left at = left
@@ -18,8 +19,14 @@ abbrev μ-loop : tie.MeasureT-loop
 count-at-requires : tie.Need-count-at-requires Inv-loop μ-loop
 count-at-requires c κs = search needs
 
+version-at-requires : tie.Need-version-at-requires Inv-loop μ-loop
+version-at-requires c κs = search needs
+
+pairs-place-requires : tie.Need-pairs-place-requires Inv-loop μ-loop
+pairs-place-requires c κs = search needs
+
 loop-holds : tie.Need-loop-holds Inv-loop μ-loop
-loop-holds c = (ap (indicesGood _ pairsPlace) (sym (c .count-at .ensures)), omega (arith, c .count-at .ensures))
+loop-holds c = (rw (c .before .before .count-at .ensures, c .pairs-place .ensures), omega (arith, c .before .before .count-at .ensures))
 
 word-at-requires : tie.Need-word-at-requires Inv-loop μ-loop
 word-at-requires c κs = search needs
@@ -49,6 +56,8 @@ indices-good-spec =
     Inv-loop
     μ-loop
     count-at-requires
+    version-at-requires
+    pairs-place-requires
     loop-holds
     word-at-requires
     returns

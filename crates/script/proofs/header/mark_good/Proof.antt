@@ -1,4 +1,5 @@
 -- `script::header::mark_good` meets its contract. Assumes nothing.
+use mathlib.Core.Bool.{and-false}
 use borrow.Author.Tests.{eq-eqb, ne-eqb}
 use borrow.Author.Needs.{needs}
 use Rattle.script.proofs.header.mark_good.Statement.{statement}
@@ -14,22 +15,24 @@ shared-slice-read-if2 : tie.Need-shared-slice-read-if2
 shared-slice-read-if2 c = search needs
 
 returns-2 : tie.Need-returns-2
-returns-2 c = simp (eq-eqb _ _ (c .before .before .if1 .left), ne-eqb _ _ (c .if2 .taken))
+returns-2 c = simp (ne-eqb _ _ (c .if2 .taken), and-false)
 
 shared-slice-read-if3 : tie.Need-shared-slice-read-if3
 shared-slice-read-if3 c = search needs
 
 returns-3 : tie.Need-returns-3
-returns-3 c = simp (eq-eqb _ _ (c .before .before .before .before .if1 .left), eq-eqb _ _ (c .before .before .if2 .left), ne-eqb _ _ (c .if3 .taken))
+returns-3 c = simp (ne-eqb _ _ (c .if3 .taken), and-false)
 
-shared-slice-read-if4 : tie.Need-shared-slice-read-if4
-shared-slice-read-if4 c = search needs
+version-at-requires : tie.Need-version-at-requires
+version-at-requires c κs = search needs
+
+known-version-requires : tie.Need-known-version-requires
+known-version-requires c κs = search needs
 
 returns-4 : tie.Need-returns-4
-returns-4 c = simp (eq-eqb _ _ (c .before .before .before .before .before .before .if1 .left), eq-eqb _ _ (c .before .before .before .before .if2 .left), eq-eqb _ _ (c .before .before .if3 .left), ne-eqb _ _ (c .if4 .taken))
-
-returns-5 : tie.Need-returns-5
-returns-5 c = simp (eq-eqb _ _ (c .before .before .before .before .before .before .if1 .left), eq-eqb _ _ (c .before .before .before .before .if2 .left), eq-eqb _ _ (c .before .before .if3 .left), eq-eqb _ _ (c .if4 .left))
+returns-4 c =
+    simp (eq-eqb _ _ (c .before .before .before .before .before .before .if1 .left), eq-eqb _ _ (c .before .before .before .before .if2 .left), eq-eqb _ _ (c .before .before .if3 .left))
+    (rw (c .before .version-at .ensures) at (c .known-version .ensures))
 
 pub mark-good-spec : {M : Type 1} → statement M
 mark-good-spec =
@@ -41,6 +44,6 @@ mark-good-spec =
     returns-2
     shared-slice-read-if3
     returns-3
-    shared-slice-read-if4
-    returns-4
-    returns-5)
+    version-at-requires
+    known-version-requires
+    returns-4)

@@ -1,7 +1,7 @@
--- `script::header::range_at` meets its contract. Assumes nothing.
+-- `codec::config::range_at` meets its contract. Assumes nothing.
 use borrow.Author.Needs.{needs}
-use Rattle.script.proofs.header.range_at.Statement.{statement}
-use Rattle.script.proofs.header.range_at.Tie as tie
+use Rattle.codec.proofs.config.range_at.Statement.{statement}
+use Rattle.codec.proofs.config.range_at.Tie as tie
 
 flash-word-at-requires : tie.Need-flash-word-at-requires
 flash-word-at-requires c κs = search needs
