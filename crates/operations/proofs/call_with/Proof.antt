@@ -97,9 +97,6 @@ returns-2 c =
 enum-known-answer : tie.Need-enum-known-answer
 enum-known-answer c = search needs
 
-same-length-3 : tie.Need-same-length-3
-same-length-3 c = search needs
-
 returns-3 : tie.Need-returns-3
 returns-3 c =
     let x = c .before .before .before .before .before .args in
@@ -130,5 +127,4 @@ call-with-spec =
     same-length-2
     returns-2
     enum-known-answer
-    same-length-3
     returns-3)
