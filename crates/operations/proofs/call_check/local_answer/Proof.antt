@@ -1,5 +1,4 @@
 -- `operations::call_check::local_answer` meets its contract. Assumes nothing.
-use native.Mathlib.Omega.{arith}
 use Rattle.laws.proofs.Tests.{failed, passed}
 use Rattle.laws.proofs.Good.{goodState-facts}
 use Rattle.operations.proofs.CallRows.{passes-top, fits-below}
