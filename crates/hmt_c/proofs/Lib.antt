@@ -1,3 +1,3 @@
 -- What the proofs of this crate share.
-pub mod NotGood
+pub mod Refused
 pub mod Handed

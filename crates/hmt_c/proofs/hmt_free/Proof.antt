@@ -1,26 +1,27 @@
 -- `hmt_c::hmt_free` meets its contract. Assumes nothing.
-use Prim.Native.Nat.{ℕ}
-use mathlib.Core.Path.{_≡_}
-use mathlib.Core.Bool.{true}
-use mathlib.Core.Logic.{⊎-elim}
-use mathlib.Core.List.{List}
+use mathlib.Core.Path.{_≡_, refl}
+use mathlib.Core.List.{List, []}
 use native.Mathlib.Omega.{arith}
 use denote.Ref.{now}
-use borrow.Author.Tests.{not-false}
-use lib.ListN.{replicate}
-use Rattle.rules.specs.Memory.{blockOf, setCodes, freeCode}
-use Rattle.rules.specs.State.{ramByte, goodState}
-use Rattle.rules.specs.Free.{blocksAt, freeAnswer, freeOf}
-use Rattle.rules.specs.Slot.{stateIn, wrongSize}
-use Rattle.laws.proofs.Tests.{failed, passed}
-use Rattle.laws.proofs.ToC.{right-size, kept-to-c}
-use Rattle.hmt_c.proofs.NotGood.{not-good}
+use lib.ListN.{length}
+use Rattle.rules.specs.declared.Operation.the-variants.{Free}
+use Rattle.rules.specs.Memory.{ramBytes}
+use Rattle.rules.specs.State.{ramByte}
+use Rattle.rules.specs.Slot.{slotBytes}
+use Rattle.laws.proofs.ToC.{Ready, right-size, kept-to-c}
 use borrow.Author.Needs.{needs}
 use Rattle.hmt_c.proofs.hmt_free.Statement.{statement}
 use Rattle.hmt_c.proofs.hmt_free.Tie as tie
 
-refusal-before-requires : tie.Need-refusal-before-requires
-refusal-before-requires c κs = search needs
+-- past the step with which every operation begins
+ready : (c : tie.Else1) → Ready (now (c .before .before .before .before .before .before .args .slot)) (now (c .before .before .before .before .before .before .args .ram))
+ready c = c .before .judged .ensures .none (c .if1 .left)
+
+sizes : (c : tie.Else1) → (length (now (c .before .before .before .before .before .before .args .slot)) ≡ slotBytes) × (length (now (c .before .before .before .before .before .before .args .ram)) ≡ ramBytes)
+sizes c = right-size (now (c .before .before .before .before .before .before .args .slot)) (now (c .before .before .before .before .before .before .args .ram)) (ready c .sizes)
+
+judged-requires : tie.Need-judged-requires
+judged-requires c κs = search needs
 
 same-length : tie.Need-same-length
 same-length c = search needs
@@ -29,24 +30,19 @@ same-length-2 : tie.Need-same-length-2
 same-length-2 c = search needs
 
 returns : tie.Need-returns
-returns c =
-    let args = c .before .before .before .before .before .before .args in
-    let slot : List ℕ = now (args .slot) in
-    let ram : List ℕ = now (args .ram) in
-    c .before .refusal-before .ensures .some (c .if1 .taken) (freeOf (stateIn slot) ram (ramByte (args .address)))
+returns c = let args = c .before .before .before .before .before .before .args in c .before .judged .ensures .some (c .if1 .taken) [] (Free (ramByte (args .address))) refl
 
-usual-requires : tie.Need-usual-requires
-usual-requires c κs =
-    let args = c .before .before .before .before .before .before .before .args in
-    let slot : List ℕ = now (args .slot) in
-    let ram : List ℕ = now (args .ram) in
-    right-size slot ram (c .before .before .refusal-before .ensures .none (c .before .if1 .left) .sizes) .0
+state-in-requires : tie.Need-state-in-requires
+state-in-requires c κs = sizes (c .before) .0
 
-good-state-requires : tie.Need-good-state-requires
-good-state-requires c κs = usual-requires (c .before .before .before) κs
+ram-byte-requires : tie.Need-ram-byte-requires
+ram-byte-requires c κs = search needs
 
-refused-requires : tie.Need-refused-requires
-refused-requires c κs = search needs
+free-requires : tie.Need-free-requires
+free-requires c κs = (sizes (c .before .before .before .before) .1, rw (c .before .before .state-in .ensures) (ready (c .before .before .before .before) .good))
+
+packed-requires : tie.Need-packed-requires
+packed-requires c κs = search needs
 
 same-length-3 : tie.Need-same-length-3
 same-length-3 c = search needs
@@ -56,70 +52,22 @@ same-length-4 c = search needs
 
 returns-2 : tie.Need-returns-2
 returns-2 c =
-    let args = c .before .before .before .before .before .before .before .before .before .before .before .before .before .args in
-    let slot : List ℕ = now (args .slot) in
-    let ram : List ℕ = now (args .ram) in
-    let ready = c .before .before .before .before .before .before .before .before .refusal-before .ensures .none (c .before .before .before .before .before .before .before .if1 .left) in
-    not-good slot ram ready (failed (c .before .before .good-state .ensures) (c .before .if3 .taken)) (wrongSize slot ram) (ready .sizes) _ (c .refused .ensures) _ _ _ _
-
--- the state is good, whichever of the two tests accepted it
-state-good : (c : tie.Joined2) → goodState (stateIn (now (c .before .before .before .before .before .before .before .before .before .args .slot))) ≡ true
-state-good c = ⊎-elim (λ w. passed (w .2 .ensures) (w .3 .left)) (λ w. c .before .usual .ensures (not-false _ (w .left))) (c .if2 .came)
-
-state-in-requires : tie.Need-state-in-requires
-state-in-requires c κs =
-    let args = c .before .before .before .before .before .before .before .before .before .before .args in
-    let slot : List ℕ = now (args .slot) in
-    let ram : List ℕ = now (args .ram) in
-    right-size slot ram (c .before .before .before .before .before .refusal-before .ensures .none (c .before .before .before .before .if1 .left) .sizes) .0
-
-ram-byte-requires : tie.Need-ram-byte-requires
-ram-byte-requires c κs = search needs
-
-free-requires : tie.Need-free-requires
-free-requires c κs =
-    let args = c .before .before .before .before .before .before .before .before .before .before .before .before .before .args in
-    let slot : List ℕ = now (args .slot) in
-    let ram : List ℕ = now (args .ram) in
-    (right-size slot ram (c .before .before .before .before .before .before .before .before .refusal-before .ensures .none (c .before .before .before .before .before .before .before .if1 .left) .sizes) .1, rw (c .before .before .state-in .ensures) (state-good (c .before .before .before .before)))
-
-packed-requires : tie.Need-packed-requires
-packed-requires c κs = search needs
-
-same-length-5 : tie.Need-same-length-5
-same-length-5 c = search needs
-
-same-length-6 : tie.Need-same-length-6
-same-length-6 c = search needs
-
-returns-3 : tie.Need-returns-3
-returns-3 c =
-    let args = c .before .before .before .before .before .before .before .before .before .before .before .before .before .before .before .before .before .args in
-    let slot : List ℕ = now (args .slot) in
-    let ram : List ℕ = now (args .ram) in
-    let ready = c .before .before .before .before .before .before .before .before .before .before .before .before .refusal-before .ensures .none (c .before .before .before .before .before .before .before .before .before .before .before .if1 .left) in
-    kept-to-c slot ram (λ i. omega (arith, c .before .before .before .before .before .before .before .before .before .before .before .before .before .before .before .slice-known2 .given i)) ready (freeAnswer (stateIn slot) ram (ramByte (args .address))) _
-    (setCodes (stateIn slot .config .bot) ram (blockOf (stateIn slot .config .bot) (ramByte (args .address))) (replicate (blocksAt (stateIn slot) ram (ramByte (args .address))) freeCode))
-    (c .before .before .before .free .result) (c .packed .result) (rw (c .before .before .before .before .before .before .state-in .ensures, c .before .before .before .before .ram-byte .ensures) at (c .before .before .before .free .ensures)) (c .packed .ensures)
+    let args = c .before .before .before .before .before .before .before .before .before .before .before .before .before .before .args in
+    kept-to-c (now (args .slot)) (now (args .ram)) [] (Free (ramByte (args .address))) (λ i. omega (arith, c .before .before .before .before .before .before .before .before .before .before .before .before .slice-known2 .given i)) refl (ready (c .before .before .before .before .before .before .before .before))
+    _ (c .before .before .before .free .result) (c .packed .result) refl (rw (c .before .before .before .before .before .before .state-in .ensures, c .before .before .before .before .ram-byte .ensures) at (c .before .before .before .free .ensures)) (c .packed .ensures)
 
 pub hmt-free-spec : {M : Type 1} → statement M
 hmt-free-spec =
     tie.close
     (tie.spec
-    refusal-before-requires
+    judged-requires
     same-length
     same-length-2
     returns
-    usual-requires
-    good-state-requires
-    refused-requires
-    same-length-3
-    same-length-4
-    returns-2
     state-in-requires
     ram-byte-requires
     free-requires
     packed-requires
-    same-length-5
-    same-length-6
-    returns-3)
+    same-length-3
+    same-length-4
+    returns-2)

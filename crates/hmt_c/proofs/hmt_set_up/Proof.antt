@@ -8,7 +8,7 @@ use denote.Ref.{now}
 use Rattle.rules.specs.Slot.{wrongSize}
 use Rattle.laws.proofs.Tests.{failed, passed}
 use Rattle.laws.proofs.ToC.{right-size, set-up-to-c}
-use Rattle.hmt_c.proofs.NotGood.{broken-rule}
+use Rattle.hmt_c.proofs.Refused.{broken-rule}
 use borrow.Author.Needs.{needs}
 use Rattle.hmt_c.proofs.hmt_set_up.Statement.{statement}
 use Rattle.hmt_c.proofs.hmt_set_up.Tie as tie
@@ -56,19 +56,19 @@ returns-2 c =
     let ram : List ℕ = now (args .ram) in
     broken-rule slot ram (sym (c .before .before .before .before .before .wrong-size .ensures) ∙ c .before .before .before .before .if1 .left) (failed (c .before .before .good-config .ensures) (c .before .if2 .taken)) _ (c .refused2 .ensures)
 
-config-in-requires : tie.Need-config-in-requires
-config-in-requires c κs =
+config-at-requires : tie.Need-config-at-requires
+config-at-requires c κs =
     let args = c .before .before .before .before .before .before .before .before .before .before .args in
     let slot : List ℕ = now (args .slot) in
     let ram : List ℕ = now (args .ram) in
-    right-size slot ram (sym (c .before .before .before .before .before .wrong-size .ensures) ∙ c .before .before .before .before .if1 .left) .0
+    omega (arith, right-size slot ram (sym (c .before .before .before .before .before .wrong-size .ensures) ∙ c .before .before .before .before .if1 .left) .0)
 
 set-up-requires : tie.Need-set-up-requires
 set-up-requires c κs =
     let args = c .before .before .before .before .before .before .before .before .before .before .before .before .args in
     let slot : List ℕ = now (args .slot) in
     let ram : List ℕ = now (args .ram) in
-    (right-size slot ram (sym (c .before .before .before .before .before .before .before .wrong-size .ensures) ∙ c .before .before .before .before .before .before .if1 .left) .1, rw (c .before .config-in .ensures) (passed (c .before .before .before .before .good-config .ensures) (c .before .before .before .if2 .left)))
+    (right-size slot ram (sym (c .before .before .before .before .before .before .before .wrong-size .ensures) ∙ c .before .before .before .before .before .before .if1 .left) .1, rw (c .before .config-at .ensures) (passed (c .before .before .before .before .good-config .ensures) (c .before .before .before .if2 .left)))
 
 set-up-requires-2 : tie.Need-set-up-requires-2
 set-up-requires-2 c κs =
@@ -90,7 +90,7 @@ returns-3 c =
     let ram : List ℕ = now (args .ram) in
     set-up-to-c slot ram _ _ (c .before .before .before .before .before .before .set-up .result) (c .before .before .set-up2 .result) (λ i. omega (arith, c .before .before .before .before .before .before .before .before .before .before .before .before .before .before .before .before .before .slice-known2 .given i))
     (sym (c .before .before .before .before .before .before .before .before .before .before .before .before .before .before .wrong-size .ensures) ∙ c .before .before .before .before .before .before .before .before .before .before .before .before .before .if1 .left)
-    (rw (c .before .before .before .before .before .before .before .before .config-in .ensures) at (c .before .before .before .before .before .before .set-up .ensures)) (c .before .before .set-up2 .ensures .0) (c .before .before .set-up2 .ensures .1)
+    (rw (c .before .before .before .before .before .before .before .before .config-at .ensures) at (c .before .before .before .before .before .before .set-up .ensures)) (c .before .before .set-up2 .ensures .0) (c .before .before .set-up2 .ensures .1)
 
 pub hmt-set-up-spec : {M : Type 1} → statement M
 hmt-set-up-spec =
@@ -106,7 +106,7 @@ hmt-set-up-spec =
     same-length-3
     same-length-4
     returns-2
-    config-in-requires
+    config-at-requires
     set-up-requires
     set-up-requires-2
     same-length-5
