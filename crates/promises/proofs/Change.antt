@@ -20,7 +20,7 @@ use Rattle.rules.specs.Store.{ownerAt, storeRows}
 use Rattle.laws.proofs.Blocks.{start-add, start-from, block-from, block-before}
 use Rattle.laws.proofs.Codes.{module-domain, domain-at, ownerOf-later}
 use Rattle.laws.proofs.Good.{GoodConfig, in-heap}
-use Rattle.promises.specs.History.{Asked, History, _then_, after, stateOf, ramOf, configOf, domainOf, answerTo, byteAt, StoredBy, Assumed, Stretch, none, next}
+use Rattle.promises.specs.History.{Asked, History, _then_, after, stateOf, ramOf, configOf, domainOf, answerTo, byteAt, Stores, StoredBy, Assumed, Stretch, none, next}
 use Rattle.promises.specs.Ledger.{Segment, booked, ledger, firstBlock, endBlock, InSegment, HeapSegment}
 use Rattle.promises.specs.Calls.{Kind, cross, OpenCall, boundInside, domainLeft, boundLeft, noted, openCalls}
 use Rattle.promises.specs.Promise.{_∈_, StoredByHolder, AbovePointer}
@@ -160,7 +160,7 @@ module _ (h : History) (k : Always h) (o : Asked) where
 
   -- what is no store keeps what holds
   after-other : NoStore (o .operation) → Always (h then o)
-  after-other n = next-always h k o (λ x b e. absurd (n (ramByte x) b e))
+  after-other n = next-always h k o (λ x b e. absurd (n x b e))
 
   -- ---- a segment's bytes
 
@@ -181,14 +181,14 @@ module _ (h : History) (k : Always h) (o : Asked) where
   unfolding configOf
   made-out n g m x q = segment-out (h then o) (after-other n) g m x q
 
-  after-store : (g : Segment) (a : RamByte) (b : ℕ) → o .operation ≡ Store a b → g ∈ ledger (h then o) → g ∈ ledger h
+  after-store : (g : Segment) (y b : ℕ) → Stores (o .operation) y b → g ∈ ledger (h then o) → g ∈ ledger h
   unfolding ledger
-  after-store g a b e m =
-      subst (λ (gs : List Segment). g ∈ gs) (booked-store (configOf h) (domainLeft (openCalls h)) a b (answerTo h o) (ledger h))
+  after-store g y b e m =
+      subst (λ (gs : List Segment). g ∈ gs) (booked-store (configOf h) (domainLeft (openCalls h)) (ramByte y) b (answerTo h o) (ledger h))
       (subst (λ (op : Operation). g ∈ booked (configOf h) (domainLeft (openCalls h)) op (answerTo h o) (ledger h)) e m)
 
   same-by-other : NoStore (o .operation) → (x : ℕ) → Out (configOf h) x → Changed x → ⊥
-  same-by-other s x out n = let (b, e, _, _) = touched x out n in s (ramByte x) b e
+  same-by-other s x out n = let (b, e, _, _) = touched x out n in s x b e
 
   pub segment-step : (g : Segment) → (g ∈ ledger h) ⊎ (g ∈ ledger (h then o)) → (x : ℕ) → InSegment (configOf h) g x
       → Changed x → StoredByHolder g x h o
@@ -214,10 +214,10 @@ module _ (h : History) (k : Always h) (o : Asked) where
   unfolding configOf
   opened-out n c m x q = stack-out (h then o) (after-other n) c m x q
 
-  still-open : (c : OpenCall) (a : RamByte) (b : ℕ) → o .operation ≡ Store a b → c ∈ openCalls (h then o) → c ∈ openCalls h
+  still-open : (c : OpenCall) (y b : ℕ) → Stores (o .operation) y b → c ∈ openCalls (h then o) → c ∈ openCalls h
   unfolding openCalls
-  still-open c a b e m =
-      subst (λ (ks : List OpenCall). c ∈ ks) (noted-store (configOf h) a b (answerTo h o) (openCalls h))
+  still-open c y b e m =
+      subst (λ (ks : List OpenCall). c ∈ ks) (noted-store (configOf h) (ramByte y) b (answerTo h o) (openCalls h))
       (subst (λ (op : Operation). c ∈ noted (configOf h) op (answerTo h o) (openCalls h)) e m)
 
   pub stack-step : (c : OpenCall) → (c ∈ openCalls h) ⊎ (c ∈ openCalls (h then o)) → (x : ℕ) → AbovePointer c x

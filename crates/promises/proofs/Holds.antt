@@ -11,16 +11,13 @@ use lib.ListN.{length, getD}
 use lib.Seq.{slice, ext-getD, length-slice, getD-take, getD-drop}
 use lib.Dec.{leb, ltb}
 use borrow.Author.Tests.{leb-true, le-leb, ltb-true, ltb-false}
-use Rattle.rules.specs.declared.RamByte.{RamByte}
 use Rattle.rules.specs.declared.Config.{Config}
 use Rattle.rules.specs.declared.State.{State}
 use Rattle.rules.specs.declared.Answer.{Answer}
 use Rattle.rules.specs.declared.Answer.the-variants.{Done, Refused}
 use Rattle.rules.specs.declared.Operation.{Operation}
-use Rattle.rules.specs.declared.Operation.the-variants.{Store}
 use Rattle.rules.specs.Memory.{ramBytes, inUse, layoutOf, heapBlock, safeBlock, radix, perByte, mapBytes, mapByte, Codes, codesOf, setCodes, trusted, isDomain}
 use Rattle.rules.specs.Code.{goodSite}
-use Rattle.rules.specs.State.{ramByte}
 use Rattle.rules.specs.Answers.{Given, give}
 use Rattle.rules.specs.SetUp.{setUpCode}
 use Rattle.rules.specs.Operations.{Lent, seenBy, rowsOf, stateAfter, ramAfter, answerBy, operationOf}
@@ -29,7 +26,7 @@ use Rattle.laws.proofs.AllBelow.{AllBelow}
 use Rattle.laws.proofs.Map.{mapByte-ge, mapByte-lt, code-of-byte, length-setCodes, codes-outside, codes-inside, setCodes-outside, setCodes-bytes}
 use Rattle.laws.proofs.Good.{GoodConfig, GoodState, safeBlock≤blocks, blocks≤places, place<heap}
 use Rattle.laws.proofs.Operations.{done-below}
-use Rattle.promises.specs.History.{History, stateOf, ramOf, InMap, InSafeStack, Bytes}
+use Rattle.promises.specs.History.{History, stateOf, ramOf, Stores, InMap, InSafeStack, Bytes}
 use Rattle.promises.specs.Ledger.{Segment, booked, ledger, codeBy}
 use Rattle.promises.specs.Calls.{OpenCall, boundInside, domainLeft, boundLeft, noted, openCalls, framesOf}
 use Rattle.promises.proofs.Row.{Row}
@@ -81,11 +78,11 @@ Elsewhere c ram ram′ = (x : ℕ) → Out c x → getD ram′ x 0 ≡ getD ram 
 -- what any operation leaves: what holds, if it is no trusted store to the map or the safe stack area; no byte that lies in neither is changed,
 -- except by a store to it; and bytes stay bytes
 pub record Kept (s : State) (ram : List ℕ) (gs : List Segment) (ks : List OpenCall) (op : Operation) (g : Given) : Type 0 where
-  pub holds : ((x b : ℕ) → op ≡ Store (ramByte x) b → g .answer ≡ Done 0 → s .domain ≡ trusted → Out (s .config) x)
+  pub holds : ((x b : ℕ) → Stores op x b → g .answer ≡ Done 0 → s .domain ≡ trusted → Out (s .config) x)
       → Holds (g .state) (g .ram) (booked (s .config) (domainLeft ks) op (g .answer) gs) (noted (s .config) op (g .answer) ks)
   pub changes : (x : ℕ) → Out (s .config) x → getD (g .ram) x 0 ≢ getD ram x 0
-      → (b : ℕ) × (op ≡ Store (ramByte x) b) × (g .answer ≡ Done 0)
-  pub bytes : Bytes ram → ((a : RamByte) (b : ℕ) → op ≡ Store a b → b < 256) → Bytes (g .ram)
+      → (b : ℕ) × Stores op x b × (g .answer ≡ Done 0)
+  pub bytes : Bytes ram → ((x b : ℕ) → Stores op x b → b < 256) → Bytes (g .ram)
 
 -- and one that stores nothing
 abbrev pub Keeps : State → List ℕ → State → List ℕ → List Segment → List OpenCall → Type 0

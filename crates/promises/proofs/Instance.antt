@@ -25,7 +25,7 @@ use Rattle.rules.specs.Malloc.{freeRun, firstRun, lowestRun}
 use Rattle.rules.specs.Free.{continued, segmentBlocks}
 use Rattle.rules.specs.Slot.{configIn, slotOf, tableIn, wrongTable, cSetUpOf}
 use Rattle.laws.proofs.Tests.{both, neither, and-true}
-use Rattle.promises.specs.History.{Asked, History, setUp, _then_, after, ramOf, configOf, domainOf, answerTo, Says, InMap, InSafeStack, Bytes, BytesGiven, Assumed, none, next as more}
+use Rattle.promises.specs.History.{Asked, History, setUp, _then_, after, ramOf, configOf, domainOf, answerTo, Says, Stores, InMap, InSafeStack, Bytes, BytesGiven, Assumed, none, next as more}
 use Rattle.promises.specs.Ledger.{entered, replacedAt, ledger, InSegment}
 use Rattle.promises.specs.Calls.{openCalls}
 use Rattle.promises.specs.Sample.{sample, sampleTable, zeroRam, sampleOperations}
@@ -51,7 +51,7 @@ allowed c d x = not (eqb d trusted && (lies (c .bot .0) (c .bot .0 + mapBytes c)
 
 -- asked next, op is no store, or one that is allowed
 abbrev quiet : History → Operation → Bool
-quiet h op = ⊎-elim (λ w. allowed (configOf h) (domainOf h) (w .0 .0)) (λ _. true) (as-store op)
+quiet h op = ⊎-elim (λ w. allowed (configOf h) (domainOf h) (w .0)) (λ _. true) (as-store op)
 
 abbrev allQuiet : History → List Operation → Bool
 allQuiet h [] = true
@@ -70,17 +70,17 @@ allowed-out c d x t e place =
       | inr p ↦ not-both (c .safe .0) (c .top .0) x stack p
     ]
 
-quiet-step : (h : History) (o : Asked) → Assumed h → (w : ((a : RamByte) × (b : ℕ) × (o .operation ≡ Store a b)) ⊎ NoStore (o .operation))
-    → ⊎-elim (λ w. allowed (configOf h) (domainOf h) (w .0 .0)) (λ _. true) w ≡ true → Assumed (h then o)
-quiet-step h o a (inl (s, b, e)) t = (
+quiet-step : (h : History) (o : Asked) → Assumed h → (w : ((x : ℕ) × (b : ℕ) × Stores (o .operation) x b) ⊎ NoStore (o .operation))
+    → ⊎-elim (λ w. allowed (configOf h) (domainOf h) (w .0)) (λ _. true) w ≡ true → Assumed (h then o)
+quiet-step h o a (inl (y, b, e)) t = (
   a,
   λ x stored place.
-      let same : Store s b ≡ Store (ramByte x) (stored .0) = sym e ∙ stored .1 in
-      let address : s ≡ ramByte x = cc in
-      allowed-out (configOf h) (domainOf h) (s .0) t (stored .3)
+      let same : Store (ramByte y) b ≡ Store (ramByte x) (stored .0) = sym e ∙ stored .1 in
+      let address : ramByte y ≡ ramByte x = cc in
+      allowed-out (configOf h) (domainOf h) y t (stored .3)
       (subst (λ (y : ℕ). InMap (configOf h) y ⊎ InSafeStack (configOf h) y) (sym (ap (λ (r : RamByte). r .0) address)) place),
 )
-quiet-step h o a (inr n) t = (a, λ x stored place. n (ramByte x) (stored .0) (stored .1))
+quiet-step h o a (inr n) t = (a, λ x stored place. n x (stored .0) (stored .1))
 
 played-assumed : (h : History) → Assumed h → (ops : List Operation) → allQuiet h ops ≡ true → Assumed (played h ops)
 played-assumed h a [] t = a
@@ -97,13 +97,13 @@ abbrev allBytes : List Operation → Bool
 allBytes [] = true
 allBytes (op ∷ ops) = ofByte op && allBytes ops
 
-byte-given : (op : Operation) (w : ((a : RamByte) × (b : ℕ) × (op ≡ Store a b)) ⊎ NoStore op)
-    → ⊎-elim (λ w. ltb (w .1) 256) (λ _. true) w ≡ true → (a : RamByte) (b : ℕ) → op ≡ Store a b → b < 256
-byte-given op (inl (s, c, q)) t a b e =
-    let same : Store s c ≡ Store a b = sym q ∙ e in
+byte-given : (op : Operation) (w : ((x : ℕ) × (b : ℕ) × Stores op x b) ⊎ NoStore op)
+    → ⊎-elim (λ w. ltb (w .1) 256) (λ _. true) w ≡ true → (x b : ℕ) → Stores op x b → b < 256
+byte-given op (inl (y, c, q)) t x b e =
+    let same : Store (ramByte y) c ≡ Store (ramByte x) b = sym q ∙ e in
     let byte : c ≡ b = cc in
     omega (arith, ltb-true c 256 t)
-byte-given op (inr n) t a b e = absurd (n a b e)
+byte-given op (inr n) t x b e = absurd (n x b e)
 
 played-bytes : (h : History) → BytesGiven h → (ops : List Operation) → allBytes ops ≡ true → BytesGiven (played h ops)
 played-bytes h g [] t = g

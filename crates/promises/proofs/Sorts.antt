@@ -11,20 +11,21 @@ use Rattle.rules.specs.declared.Answer.{Answer}
 use Rattle.rules.specs.declared.Answer.the-variants.{Done, Refused}
 use Rattle.rules.specs.declared.Operation.{Operation}
 use Rattle.rules.specs.declared.Operation.the-variants.{Store, Call, Return, Malloc, Free, Change}
+use Rattle.promises.specs.History.{Stores}
 use Rattle.promises.specs.Ledger.{Segment, booked}
 
 -- ---- a store, or none
 
 abbrev pub NoStore : Operation → Type 0
-NoStore op = (a : RamByte) (b : ℕ) → op ≡ Store a b → ⊥
+NoStore op = (x b : ℕ) → Stores op x b → ⊥
 
-unfoldable pub as-store : (op : Operation) → ((a : RamByte) × (b : ℕ) × (op ≡ Store a b)) ⊎ NoStore op
-as-store (Store a b) = inl (a, b, refl)
-as-store (Call t site p) = inr (λ a b e. let z : _≡_ {A = ℕ} 0 1 = cc in omega arith)
-as-store Return = inr (λ a b e. let z : _≡_ {A = ℕ} 0 1 = cc in omega arith)
-as-store (Malloc size) = inr (λ a b e. let z : _≡_ {A = ℕ} 0 1 = cc in omega arith)
-as-store (Free a) = inr (λ a b e. let z : _≡_ {A = ℕ} 0 1 = cc in omega arith)
-as-store (Change a d) = inr (λ a b e. let z : _≡_ {A = ℕ} 0 1 = cc in omega arith)
+unfoldable pub as-store : (op : Operation) → ((x : ℕ) × (b : ℕ) × Stores op x b) ⊎ NoStore op
+as-store (Store a b) = inl (a .0, b, refl)
+as-store (Call t site p) = inr (λ x b e. let z : _≡_ {A = ℕ} 0 1 = cc in omega arith)
+as-store Return = inr (λ x b e. let z : _≡_ {A = ℕ} 0 1 = cc in omega arith)
+as-store (Malloc size) = inr (λ x b e. let z : _≡_ {A = ℕ} 0 1 = cc in omega arith)
+as-store (Free a) = inr (λ x b e. let z : _≡_ {A = ℕ} 0 1 = cc in omega arith)
+as-store (Change a d) = inr (λ x b e. let z : _≡_ {A = ℕ} 0 1 = cc in omega arith)
 
 -- ---- what it does to the ledger when it is done
 

@@ -7,10 +7,9 @@ use Rattle.rules.specs.declared.Answer.the-variants.{Done}
 use Rattle.rules.specs.declared.Operation.{Operation}
 use Rattle.rules.specs.declared.Operation.the-variants.{Store, Call, Return, Malloc, Free, Change}
 use Rattle.rules.specs.Memory.{trusted}
-use Rattle.rules.specs.State.{ramByte}
 use Rattle.rules.specs.Operations.{operationOf}
 use Rattle.laws.proofs.Operations.{config-after}
-use Rattle.promises.specs.History.{Asked, History, setUp, _then_, after, stateOf, ramOf, configOf, domainOf, answerTo, Bytes, BytesGiven, Assumed, Stretch, none, next}
+use Rattle.promises.specs.History.{Asked, History, setUp, _then_, after, stateOf, ramOf, configOf, domainOf, answerTo, Stores, Bytes, BytesGiven, Assumed, Stretch, none, next}
 use Rattle.promises.specs.Ledger.{booked, ledger}
 use Rattle.promises.specs.Calls.{domainLeft, noted, openCalls}
 use Rattle.promises.proofs.Holds.{Holds, Out, Kept, HoldsAfter}
@@ -41,7 +40,7 @@ module _ (h : History) (k : Always h) (o : Asked) where
       of (Change a d) = change-kept (stateOf h) (ramOf h) (ledger h) (openCalls h) (k .1) (o .lent) a d
 
   -- any but a trusted store to the map or the safe stack area
-  pub next-always : ((x b : ℕ) → o .operation ≡ Store (ramByte x) b → answerTo h o ≡ Done 0 → domainOf h ≡ trusted → Out (configOf h) x)
+  pub next-always : ((x b : ℕ) → Stores (o .operation) x b → answerTo h o ≡ Done 0 → domainOf h ≡ trusted → Out (configOf h) x)
       → Always (h then o)
   unfolding after configOf ledger openCalls
   next-always quiet = (

@@ -137,5 +137,5 @@ module _ (s : State) (ram : List ℕ) (gs : List Segment) (ks : List OpenCall) (
               | yes q ↦ (b, ap (λ (y : ℕ). Store (ramByte y) b) q, ap Done zero)
               | no q ↦ absurd (n (getD-set-other ram (a .0) x b 0 (λ w. q (sym w))))
             ];
-        bytes = λ before given. set-bytes ram (a .0) b before (given a b refl);
+        bytes = λ before given. set-bytes ram (a .0) b before (given (a .0) b refl);
       })

@@ -8,13 +8,11 @@ use mathlib.Core.Logic.{_⊎_}
 use mathlib.Core.List.{List, []}
 use lib.ListN.{getD}
 use Rattle.rules.specs.declared.Operation.{Operation}
-use Rattle.rules.specs.declared.Operation.the-variants.{Store}
 use Rattle.rules.specs.Memory.{trusted}
-use Rattle.rules.specs.State.{ramByte}
 use Rattle.rules.specs.Answers.{Given}
 use Rattle.rules.specs.Operations.{Lent, lending}
 use Rattle.rules.specs.Slot.{domainPlace, configIn, stateIn, slotOf, packed, GivenToC, tableIn, wrongTable, cSetUpOf, cOperationOf}
-use Rattle.promises.specs.History.{Asked, History, setUp, _then_, after, InMap, InSafeStack}
+use Rattle.promises.specs.History.{Asked, History, setUp, _then_, after, Stores, InMap, InSafeStack}
 use Rattle.promises.specs.Promise.{Promise}
 
 -- ---- calls from C, and a sequence of them
@@ -74,7 +72,7 @@ PremiseFromC (setUpFromC slot ram) = Unit {0}
 PremiseFromC (r next o) =
     let slot = afterFromC r .slot in
     PremiseFromC r
-    × ((x b : ℕ) → o .operation ≡ Store (ramByte x) b → stepFromC slot (afterFromC r .ram) o .answer ≡ 0 → getD slot domainPlace 0 ≡ trusted
+    × ((x b : ℕ) → Stores (o .operation) x b → stepFromC slot (afterFromC r .ram) o .answer ≡ 0 → getD slot domainPlace 0 ≡ trusted
     → InMap (configIn slot) x ⊎ InSafeStack (configIn slot) x → ⊥)
 
 pub record FromC (r : RunFromC) : Type 0 where

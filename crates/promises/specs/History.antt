@@ -5,7 +5,6 @@ use mathlib.Core.Path.{_≡_}
 use mathlib.Core.Logic.{_⊎_}
 use mathlib.Core.List.{List}
 use lib.ListN.{getD}
-use Rattle.rules.specs.declared.RamByte.{RamByte}
 use Rattle.rules.specs.declared.Config.{Config}
 use Rattle.rules.specs.declared.State.{State}
 use Rattle.rules.specs.declared.Answer.{Answer}
@@ -59,9 +58,13 @@ Says a n v = (numberOf a ≡ n) × (valueOf a ≡ v)
 abbrev pub answerTo : History → Asked → Answer
 answerTo h o = operationOf (stateOf h) (ramOf h) (o .lent) (o .operation) .answer
 
+-- an operation is to store byte b to address x
+abbrev pub Stores : Operation → ℕ → ℕ → Type 0
+Stores op x b = op ≡ Store (ramByte x) b
+
 -- the operation asked next stores some byte b to address x, and is carried out while domain d is current
 abbrev pub StoredBy : History → Asked → ℕ → ℕ → Type 0
-StoredBy h o x d = (b : ℕ) × (o .operation ≡ Store (ramByte x) b) × Says (answerTo h o) 0 0 × (domainOf h ≡ d)
+StoredBy h o x d = (b : ℕ) × Stores (o .operation) x b × Says (answerTo h o) 0 0 × (domainOf h ≡ d)
 
 -- address x lies in the map; in the safe stack area
 abbrev pub InMap : Config → ℕ → Type 0
@@ -81,7 +84,7 @@ Bytes ram = (i : ℕ) → getD ram i 0 < 256
 
 abbrev pub BytesGiven : History → Type 0
 BytesGiven (setUp c ram) = Bytes ram
-BytesGiven (h then o) = BytesGiven h × ((a : RamByte) (b : ℕ) → o .operation ≡ Store a b → b < 256)
+BytesGiven (h then o) = BytesGiven h × ((x b : ℕ) → Stores (o .operation) x b → b < 256)
 
 -- a stretch of a history, from one moment to a later one: P holds of each of its operations and of the history before that operation
 pub data Stretch (P : History → Asked → Type 0) (from : History) : History → Type 0 where

@@ -19,13 +19,12 @@ use Rattle.rules.specs.declared.State.{State}
 use Rattle.rules.specs.declared.Frame.{Frame}
 use Rattle.rules.specs.declared.Found.{Found}
 use Rattle.rules.specs.declared.Answer.{Answer}
-use Rattle.rules.specs.Memory.{ramBytes, layoutOf, startOf, blockOf, blocksFor, isMultiple, mapBytesFor, codesOf, setCodes, startCode, laterCode, freeCode, ownerOf, startsSegment}
+use Rattle.rules.specs.Memory.{ramBytes, layoutOf, startOf, blockOf, blocksFor, isMultiple, mapBytesFor, codeOf, codesOf, setCodes, startCode, laterCode, freeCode, ownerOf, startsSegment}
 use Rattle.rules.specs.Code.{tableWords, domainWords, flashWord}
 use Rattle.rules.specs.State.{ramByte, multiples, botBelowTop, mapBelowHeap, heapBelowSafe, safeBelowTop, topInRam, jtInFlash, rangesOrdered, rangesApart, goodConfig, domainGood, boundGood, safepointerGood, goodState}
 use Rattle.rules.specs.Answers.{numberOf, valueOf, Given, Gives}
 use Rattle.rules.specs.SetUp.{setUpRam, setUpOf}
 use Rattle.rules.specs.Bytes.{low, high}
-use Rattle.rules.specs.Store.{ownerAt}
 use Rattle.rules.specs.Call.{frameBytes}
 use Rattle.rules.specs.Return.{readFrame, topFrame}
 use Rattle.rules.specs.Malloc.{block, lowestRun}
@@ -121,8 +120,8 @@ pub record Uniqueness : Type 1 where
   pub «start_code» : (config : Config) (domain : ℕ) → Only (λ r. r ≡ startCode (layoutOf config) domain)
   pub «later_code» : (config : Config) (domain : ℕ) → Only (λ r. r ≡ laterCode (layoutOf config) domain)
   pub «set_up_map» : (config : Config) (ram : List ℕ) → Only (λ ram′. ram′ ≡ setUpRam (layoutOf config) config ram)
-  pub «code_at» : (config : Config) (ram : List ℕ) (a : RamByte) → Only (λ r. r ≡ codesOf config ram (blockOf config a))
-  pub «owner_at» : (config : Config) (ram : List ℕ) (a : RamByte) → Only (λ r. r ≡ ownerAt config (codesOf config ram) a)
+  pub «code_at» : (config : Config) (ram : List ℕ) (a : RamByte) → Only (λ r. r ≡ codeOf (layoutOf config) ram (blockOf config a))
+  pub «owner_at» : (config : Config) (ram : List ℕ) (a : RamByte) → Only (λ r. r ≡ ownerOf (layoutOf config) (codeOf (layoutOf config) ram (blockOf config a)))
   pub «is_first» : (config : Config) (a : RamByte) → Only (λ r. r ≡ eqb (startOf config (blockOf config a)) (a .0))
   pub «segment_blocks» : (config : Config) (ram : List ℕ) (a : RamByte) (domain : ℕ)
       → Only (λ r. r ≡ segmentBlocks config (codesOf config ram) (blockOf config a))
