@@ -1,5 +1,5 @@
 #!/usr/bin/env python3
-"""Tests of the converter tools/hmtscript.py, of ./run and of tools/contracts.py.
+"""Tests of the converter tools/hmtscript.py, of ./run, and of tools/contracts.py, tools/addresses.py and tools/must_fail.py.
 
   python3 tools/test_tools.py PROGRAM       a program that reads a script on standard input
 """
@@ -21,6 +21,7 @@ ROOT = Path(__file__).resolve().parent.parent
 sys.path.insert(0, str(ROOT / "tools"))
 
 import hmtscript
+import must_fail
 import replay
 
 PROGRAM = ""
@@ -552,6 +553,28 @@ pub fn put(n: u16, out: &mut [u8]) -> u16
         self.assertIn("`use other.Place.{_≢_ as _≡_}` renames", page)
         self.assertTrue(page.endswith("contracts: 0 passed, 1 failed\n"), page)
 
+    # ---- addresses ----
+
+    def test_addresses_that_are_mixed(self):
+        """What tools/addresses.py finds in a made-up source, and that it passes what is right."""
+        right = "pub fn f(config: Config, a: RamByte) -> bool\n{ a.0 <= 3 && above(a, n).0 == 4 }\n"
+        for name, text, wrong in (
+                ("frames", right, ""),
+                ("frames", "fn f(k: u16) { RamByte(k) }", "1: an address is made from a number"),
+                ("frames", "\nfn f(mut r: RamByte, k: FlashWord) { r.0 = k.0; }", "2: the number inside an address is stored to"),
+                ("frames", "fn f(mut r: RamByte) { r.0 += 1; }", "1: the number inside an address is stored to"),
+                ("frames", "fn f(bot: RamByte, site: FlashWord) { above(bot, site.0) }", "1: the number inside an address is handed as an offset"),
+                ("frames", "use rules::Block;", "1: a block number outside the map code"),
+                ("map", "fn f(k: Block) { further(k, 1) }", ""),
+                ("map", "pub fn f(\n    config: Config,\n    k: Block,\n) -> u16\n{ 1 }", "1: a public function of the map names a block")):
+            with self.subTest(text=text):
+                root = Path(tempfile.mkdtemp(dir=self.folder))
+                (root / "crates" / name / "src").mkdir(parents=True)
+                (root / "crates" / name / "src" / "lib.rt").write_text(text, encoding="utf-8")
+                result = self.start([sys.executable, str(ROOT / "tools" / "addresses.py")], root)
+                self.assertEqual(result.stdout.decode(), f"crates/{name}/src/lib.rt:{wrong}\n" if wrong else "")
+                self.assertEqual(result.returncode, 1 if wrong else 0)
+
     # ---- building ----
 
     def unbuilt(self, crates):
@@ -621,6 +644,78 @@ pub fn put(n: u16, out: &mut [u8]) -> u16
         self.assertEqual(shown.split("\r\n"), [first, "".join("\r\033[K" + step for step in [*steps, ""])])
 
 
+class MustFail(unittest.TestCase):
+    """How tools/must_fail.py judges an edit."""
+
+    ONE = "crates/one/proofs/eight/Proof.antt"
+    # What the checker prints, and what is then said of an edit with `fact: proofs/eight/Proof.antt returns`: nothing if it is refused as it must be.
+    PRINTED = {
+        f"{ONE}:3:5: error: `returns`: the two types differ\n{ONE}:9:1: error: `eight-spec`: `returns` was not admitted (it was rejected)": "",
+        f"fn one::eight: no proof: expected `eight-spec` in /there/{ONE}; `search` does not close `returns`": "",
+        f"{ONE}:3:5: error: `returns-2`: the two types differ": "refused at one: proofs/eight/Proof.antt returns-2, and not at",
+        f"{ONE.replace('eight', 'nine')}:3:5: error: `returns`: the two types differ": "refused at one: proofs/nine/Proof.antt returns, and not at",
+        f"{ONE.replace('one', 'two')}:3:5: error: `returns`: the two types differ": "refused at two: proofs/eight/Proof.antt returns, and not at",
+        f"{ONE}:3:5: error: `returns`: the two types differ\n{ONE.replace('one', 'two')}:3:5: error: `law`: the two types differ": "in no other crate",
+        "target/rlib/two.rlib/lang/antt/proofs/Law.antt:3:5: error: `law`: the two types differ": "refused at two: proofs/Law.antt law, and not at",
+        f"{ONE}:9:1: error: `returns`: `other` was not admitted (it was rejected)": "refused at no fact",
+        f"{ONE}:3:5: error: `returns`: `if2` has no field `taken`": "for another reason than a fact",
+        f"{ONE}:3:5: error: `returns`: the two types differ\n{ONE}:4:5: error: expected a term": "for another reason than a fact",
+        f"{ONE}:3:5: error: `returns`: the two types differ\nfn one::nine: no proof: expected `nine-spec` in there; it has a loop": "for another reason",
+    }
+
+    def edit(self, folder, name, words, old, new):
+        path = Path(folder, "must-fail/one", name + ".edit")
+        path.parent.mkdir(parents=True, exist_ok=True)
+        path.write_text(f"crate: one\n{words}\nfile: crates/one/src/lib.rt\nold: {old}\nnew: {new}\n", encoding="utf-8")
+        return str(path)
+
+    def test_what_the_checker_prints(self):
+        with tempfile.TemporaryDirectory() as folder:
+            edit = must_fail.Edit(self.edit(folder, "a", "fact: proofs/eight/Proof.antt returns", "8", "7"))
+            for words, file in (("fact: a b", "proofs/a/Proof.antt"), ("", "src/lib.rt"), ("fact: a b\ntype: c", "src/lib.rt")):
+                path = self.edit(folder, "b", words, "8", "7")
+                Path(path).write_text(Path(path).read_text(encoding="utf-8").replace("src/lib.rt", file), encoding="utf-8")
+                self.assertRaises(ValueError, must_fail.Edit, path)
+        for text, why in self.PRINTED.items():
+            with self.subTest(text=text):
+                if why:
+                    self.assertRaisesRegex(ValueError, why, must_fail.judge, edit, 1, text + "\nlogic=not-proved\n")
+                else:
+                    self.assertEqual(must_fail.judge(edit, 1, text + "\nlogic=not-proved\n"), "at proofs/eight/Proof.antt returns")
+        for status, text, why in ((0, "logic=proved", "NOT REFUSED"), (1, "a.rt:1:2: error: expected `;`", "did not reach"), (3, "no verdict", "did not reach")):
+            self.assertRaisesRegex(ValueError, why, must_fail.judge, edit, status, text)
+
+    def test_edits_of_a_small_crate(self):
+        with tempfile.TemporaryDirectory() as folder:
+            for place, text in (("crates.txt", "one:\n"), ("crates/one/src/lib.rt", EIGHT), ("tools/must_fail.py", Path(must_fail.__file__).read_text(encoding="utf-8"))):
+                Path(folder, place).parent.mkdir(parents=True, exist_ok=True)
+                Path(folder, place).write_text(text, encoding="utf-8")
+            fact = "fact: proofs/eight/Proof.antt returns"
+            self.edit(folder, "refused", fact, "    8", "    7")
+            self.edit(folder, "accepted", fact, "a number", "a word")
+            self.edit(folder, "unfit", fact, "    9", "    7")
+            self.edit(folder, "not-compiled", fact, "    8", "    true")
+            self.edit(folder, "type", "type: expected `usize`, found `bool`", "    8", "    true")
+            run = subprocess.run([sys.executable, f"{folder}/tools/must_fail.py"], capture_output=True, text=True)
+        for line in ("refused: refused, as it must be, by one at proofs/eight/Proof.antt returns", "accepted: FAILED: NOT REFUSED: one is still proved",
+                     "unfit: FAILED: it does not fit: crates/one/src/lib.rt has 0 times:     9", "not-compiled: FAILED: it did not reach the prover (exit 1)",
+                     "type: refused, as it must be, by one by its types: expected `usize`, found `bool`"):
+            self.assertIn(f"must-fail one/{line}", run.stdout)
+        self.assertEqual((run.returncode, run.stdout.splitlines()[-1]), (1, "must-fail: 2 passed, 3 failed"))
+
+
+EIGHT = """\
+// a number
+ghost use mathlib.Core.Path.{_≡_};
+
+pub fn eight() -> usize
+    ensures { λ r. ⌜ r ≡ 8 ⌝ }
+{
+    8
+}
+"""
+
+
 class Count(unittest.TextTestResult):
     passed = 0
 
@@ -633,7 +728,7 @@ if __name__ == "__main__":
     if len(sys.argv) != 2 or not os.access(sys.argv[1], os.X_OK):
         sys.exit("usage: python3 tools/test_tools.py PROGRAM")
     PROGRAM = os.path.abspath(sys.argv[1])
-    tests = unittest.defaultTestLoader.loadTestsFromTestCase(Tools)
+    tests = unittest.TestSuite(map(unittest.defaultTestLoader.loadTestsFromTestCase, (Tools, MustFail)))
     result = unittest.TextTestRunner(stream=sys.stdout, resultclass=Count).run(tests)
     failed = result.testsRun - result.passed - len(result.skipped)
     print(f"tools: {result.passed} passed, {failed} failed")

@@ -3,7 +3,7 @@ ghost use mathlib.Core.Path.{_≡_};
 ghost use Rattle.rules.specs.Code.{flashWord};
 ghost use Rattle.rules.specs.State.{ramByte};
 ghost use Rattle.rules.specs.Slot.{GivesToC, wrongSize, cSetUpOf, cStoreOf, cCallOf, cReturnOf, cMallocOf, cFreeOf, cChangeOf};
-ghost use Rattle.laws.proofs.ToC.{Before};
+ghost use Rattle.laws.proofs.ToC.{Judged};
 use rules::Refusal;
 
 mod answer;
@@ -12,39 +12,48 @@ mod slot;
 
 use answer::packed;
 use answer::refused;
+use codec::config::code_at;
+use codec::config::config_at;
+use codec::word_at;
 use operands::flash_word;
 use operands::ram_byte;
 use operations::looked_at::caller;
 use operations::looked_at::domain_of;
 use operations::looked_at::table_word;
 use operations::looked_at::top_frame;
+use slot::CONFIG;
+use slot::state_in;
 
 const RAM_BYTES: usize = address::RAM_BYTES as usize;
-
-const SLOT_BYTES: usize = 48;
 
 const TABLE_BYTES: usize = 2048;
 
 fn wrong_size(ram: &[u8], slot: &[u8]) -> bool
     ensures { λ r. ⌜ r ≡ wrongSize (now (slot .entry)) (now (ram .entry)) ⌝ }
 {
-    if slot.len() != SLOT_BYTES {
+    if slot.len() != slot::BYTES {
         return true;
     }
     ram.len() != RAM_BYTES
 }
 
-// The refusal that an operation gives before it looks at the state, 0 for none.
-fn refusal_before(ram: &[u8], slot: &[u8]) -> u32
-    ensures { λ r. ⌜ Before (now (slot .entry)) (now (ram .entry)) r ⌝ }
+// The step with which every operation begins: the lengths, byte 47 and the state; the refusal that they give, 0 for none.
+fn judged(ram: &[u8], slot: &[u8]) -> u32
+    ensures { λ r. ⌜ Judged (now (slot .entry)) (now (ram .entry)) r ⌝ }
 {
     if wrong_size(ram, slot) {
         return refused(Refusal::WrongSize);
     }
-    if slot[47] != 0 {
+    if slot[slot::ZERO] != 0 {
         return refused(Refusal::BadState);
     }
-    0
+    if slot::usual(slot) {
+        return 0;
+    }
+    if slot::good_state(slot) {
+        return 0;
+    }
+    refused(Refusal::BadState)
 }
 
 #[no_mangle]
@@ -57,7 +66,7 @@ pub extern "C" fn hmt_set_up(ram: &mut [u8], slot: &mut [u8]) -> u32
     if !slot::good_config(slot) {
         return refused(Refusal::BrokenRule);
     }
-    let outcome = operations::set_up(slot::config_in(slot), ram);
+    let outcome = operations::set_up(config_at(slot, CONFIG), ram);
     slot::set_up(slot, outcome)
 }
 
@@ -65,16 +74,11 @@ pub extern "C" fn hmt_set_up(ram: &mut [u8], slot: &mut [u8]) -> u32
 pub extern "C" fn hmt_store(ram: &mut [u8], slot: &mut [u8], address: u16, byte: u8) -> u32
     ensures { λ r. ⌜ GivesToC r (now (slot .exit)) (now (ram .exit)) (cStoreOf (now (slot .entry)) (now (ram .entry)) (ramByte address) byte) ⌝ }
 {
-    let refusal = refusal_before(ram, slot);
+    let refusal = judged(ram, slot);
     if refusal != 0 {
         return refusal;
     }
-    if !slot::usual(slot) {
-        if !slot::good_state(slot) {
-            return refused(Refusal::BadState);
-        }
-    }
-    let outcome = operations::store(slot::state_in(slot), ram, ram_byte(address), byte);
+    let outcome = operations::store(state_in(slot), ram, ram_byte(address), byte);
     let given = outcome.answer;
     packed(given)
 }
@@ -93,20 +97,15 @@ pub extern "C" fn hmt_call(
     if table.len() != TABLE_BYTES {
         return refused(Refusal::WrongSize);
     }
-    let refusal = refusal_before(ram, slot);
+    let refusal = judged(ram, slot);
     if refusal != 0 {
         return refusal;
     }
-    if !slot::usual(slot) {
-        if !slot::good_state(slot) {
-            return refused(Refusal::BadState);
-        }
-    }
-    let state = slot::state_in(slot);
+    let state = state_in(slot);
     let at = table_word(state.config.jt, flash_word(target));
-    let code = slot::code_at(slot, state.domain);
-    let called = slot::code_at(slot, domain_of(at));
-    let word = slot::word_at(table, 2 * (at as usize));
+    let code = code_at(slot, CONFIG, state.domain);
+    let called = code_at(slot, CONFIG, domain_of(at));
+    let word = word_at(table, 2 * (at as usize));
     let outcome = operations::call_with(
         state,
         ram,
@@ -124,22 +123,17 @@ pub extern "C" fn hmt_call(
 pub extern "C" fn hmt_return(ram: &mut [u8], slot: &mut [u8]) -> u32
     ensures { λ r. ⌜ GivesToC r (now (slot .exit)) (now (ram .exit)) (cReturnOf (now (slot .entry)) (now (ram .entry))) ⌝ }
 {
-    let refusal = refusal_before(ram, slot);
+    let refusal = judged(ram, slot);
     if refusal != 0 {
         return refusal;
     }
-    if !slot::usual(slot) {
-        if !slot::good_state(slot) {
-            return refused(Refusal::BadState);
-        }
-    }
-    let state = slot::state_in(slot);
+    let state = state_in(slot);
     if state.safepointer.0 == state.config.safe.0 {
         return refused(Refusal::NoFrame);
     }
     let frame = top_frame(state, ram);
-    let code = slot::code_at(slot, caller(state, frame));
-    let outcome = operations::ret_with(state, ram, frame, code);
+    let code = code_at(slot, CONFIG, caller(state, frame));
+    let outcome = operations::ret_with(state, frame, code);
     slot::change(slot, outcome)
 }
 
@@ -147,16 +141,11 @@ pub extern "C" fn hmt_return(ram: &mut [u8], slot: &mut [u8]) -> u32
 pub extern "C" fn hmt_malloc(ram: &mut [u8], slot: &mut [u8], size: u16) -> u32
     ensures { λ r. ⌜ GivesToC r (now (slot .exit)) (now (ram .exit)) (cMallocOf (now (slot .entry)) (now (ram .entry)) size) ⌝ }
 {
-    let refusal = refusal_before(ram, slot);
+    let refusal = judged(ram, slot);
     if refusal != 0 {
         return refusal;
     }
-    if !slot::usual(slot) {
-        if !slot::good_state(slot) {
-            return refused(Refusal::BadState);
-        }
-    }
-    let outcome = operations::malloc(slot::state_in(slot), ram, size);
+    let outcome = operations::malloc(state_in(slot), ram, size);
     let given = outcome.answer;
     packed(given)
 }
@@ -165,16 +154,11 @@ pub extern "C" fn hmt_malloc(ram: &mut [u8], slot: &mut [u8], size: u16) -> u32
 pub extern "C" fn hmt_free(ram: &mut [u8], slot: &mut [u8], address: u16) -> u32
     ensures { λ r. ⌜ GivesToC r (now (slot .exit)) (now (ram .exit)) (cFreeOf (now (slot .entry)) (now (ram .entry)) (ramByte address)) ⌝ }
 {
-    let refusal = refusal_before(ram, slot);
+    let refusal = judged(ram, slot);
     if refusal != 0 {
         return refusal;
     }
-    if !slot::usual(slot) {
-        if !slot::good_state(slot) {
-            return refused(Refusal::BadState);
-        }
-    }
-    let outcome = operations::free(slot::state_in(slot), ram, ram_byte(address));
+    let outcome = operations::free(state_in(slot), ram, ram_byte(address));
     let given = outcome.answer;
     packed(given)
 }
@@ -183,16 +167,11 @@ pub extern "C" fn hmt_free(ram: &mut [u8], slot: &mut [u8], address: u16) -> u32
 pub extern "C" fn hmt_change(ram: &mut [u8], slot: &mut [u8], address: u16, domain: u8) -> u32
     ensures { λ r. ⌜ GivesToC r (now (slot .exit)) (now (ram .exit)) (cChangeOf (now (slot .entry)) (now (ram .entry)) (ramByte address) domain) ⌝ }
 {
-    let refusal = refusal_before(ram, slot);
+    let refusal = judged(ram, slot);
     if refusal != 0 {
         return refusal;
     }
-    if !slot::usual(slot) {
-        if !slot::good_state(slot) {
-            return refused(Refusal::BadState);
-        }
-    }
-    let outcome = operations::change(slot::state_in(slot), ram, ram_byte(address), domain);
+    let outcome = operations::change(state_in(slot), ram, ram_byte(address), domain);
     let given = outcome.answer;
     packed(given)
 }

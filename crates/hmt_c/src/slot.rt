@@ -1,107 +1,73 @@
-// The slot: the configuration and the state read from it, the fresh state and what a call or a return changes written to it.
+// The slot: the state judged and read where it stands, the fresh state and what a call or a return changes written to it.
 ghost use mathlib.Core.Path.{_≡_};
 ghost use mathlib.Core.Bool.{true, _&&_};
 ghost use mathlib.Core.List.{[], _∷_, _++_};
-ghost use Prim.Native.Nat.{_+_, _<_, _≤_};
 ghost use lib.ListN.{length};
 ghost use lib.Seq.{sets};
-ghost use Rattle.rules.specs.Memory.{trusted};
-ghost use Rattle.rules.specs.Code.{flashWord, rangeOf};
-ghost use Rattle.rules.specs.State.{ramByte, rangesOrdered, rangesApart, goodConfig, goodState};
-ghost use Rattle.rules.specs.Return.{wordAt};
-ghost use Rattle.rules.specs.Slot.{slotBytes, boundIn, configIn, stateIn, packed};
-ghost use Rattle.laws.proofs.Slot.{runBytes};
+ghost use Rattle.rules.specs.State.{rangesOrdered, rangesApart, goodConfig, goodState};
+ghost use Rattle.rules.specs.Slot.{slotBytes, runPart, configIn, stateIn, runAsBytes, packed};
 ghost use Rattle.laws.proofs.ToC.{after};
 use crate::answer::refused;
+use codec::config::JT;
+use codec::config::RANGES;
+use codec::config::RANGE_BYTES;
+use codec::config::config_at;
+use codec::ram_byte_at;
+use codec::word_at;
 use frames::high;
 use frames::low;
 use rules::Answer;
-use rules::Config;
-use rules::FlashWord;
 use rules::Outcome;
-use rules::RamByte;
-use rules::Range;
 use rules::State;
 
-pub fn word_at(bytes: &[u8], at: usize) -> u16
-    requires { ⌜ at + 1 < length (now bytes) ⌝ }
-    ensures { λ r. ⌜ r ≡ wordAt (now (bytes .entry)) at ⌝ }
-{
-    address::joined(bytes[at], bytes[at + 1])
-}
+// Where its parts begin: the configuration, what a call or a return changes (bound, safe pointer, domain), a byte 0.
+pub const CONFIG: usize = 0;
 
-fn ram_byte_at(slot: &[u8], at: usize) -> RamByte
-    requires { ⌜ at + 1 < length (now slot) ⌝ }
-    ensures { λ r. ⌜ r ≡ ramByte (wordAt (now (slot .entry)) at) ⌝ }
-{
-    address::byte_of(slot[at], slot[at + 1])
-}
+const RUN: usize = CONFIG + codec::config::BYTES;
 
-fn flash_word_at(slot: &[u8], at: usize) -> FlashWord
-    requires { ⌜ at + 1 < length (now slot) ⌝ }
-    ensures { λ r. ⌜ r ≡ flashWord (wordAt (now (slot .entry)) at) ⌝ }
-{
-    address::word_of(slot[at], slot[at + 1])
-}
+pub const ZERO: usize = RUN + 5;
 
-fn range_at(slot: &[u8], at: usize) -> Range
-    requires { ⌜ at + 3 < length (now slot) ⌝ }
-    ensures { λ r. ⌜ r ≡ record { start = flashWord (wordAt (now (slot .entry)) at); end = flashWord (wordAt (now (slot .entry)) (at + 2)) } ⌝ }
-{
-    Range {
-        start: flash_word_at(slot, at),
-        end: flash_word_at(slot, at + 2),
-    }
-}
+pub const BYTES: usize = ZERO + 1;
 
-pub fn config_in(slot: &[u8]) -> Config
-    requires { ⌜ length (now slot) ≡ slotBytes ⌝ }
-    ensures { λ r. ⌜ r ≡ configIn (now (slot .entry)) ⌝ }
-{
-    let ranges = [
-        range_at(slot, 10),
-        range_at(slot, 14),
-        range_at(slot, 18),
-        range_at(slot, 22),
-        range_at(slot, 26),
-        range_at(slot, 30),
-        range_at(slot, 34),
-        range_at(slot, 38),
-    ];
-    Config {
-        bot: ram_byte_at(slot, 0),
-        heap: ram_byte_at(slot, 2),
-        safe: ram_byte_at(slot, 4),
-        top: ram_byte_at(slot, 6),
-        jt: flash_word_at(slot, 8),
-        ranges: ranges,
-    }
-}
+const BOUND: usize = RUN;
+
+const SAFEPOINTER: usize = RUN + 2;
+
+const DOMAIN: usize = RUN + 4;
 
 pub fn state_in(slot: &[u8]) -> State
     requires { ⌜ length (now slot) ≡ slotBytes ⌝ }
     ensures { λ r. ⌜ r ≡ stateIn (now (slot .entry)) ⌝ }
 {
-    let config = config_in(slot);
-    let bound = ram_byte_at(slot, 42);
-    let safepointer = ram_byte_at(slot, 44);
+    let config = config_at(slot, CONFIG);
+    let bound = ram_byte_at(slot, BOUND);
+    let safepointer = ram_byte_at(slot, SAFEPOINTER);
     State {
         config: config,
-        domain: slot[46],
+        domain: slot[DOMAIN],
         bound: bound,
         safepointer: safepointer,
     }
 }
+
+// Where the code ranges of the first module and of the trusted domain stand.
+const FIRST: usize = CONFIG + RANGES;
+
+const TRUSTED: usize = FIRST + 7 * RANGE_BYTES;
+
+const TRUSTED_END: usize = TRUSTED + 2;
+
+const JT_PLACE: usize = CONFIG + JT;
 
 // Code as it usually lies (see good::ranges::all_good), seen in the slot itself: modules rising, the trusted code before or after them.
 fn rising(slot: &[u8]) -> bool
     requires { ⌜ length (now slot) ≡ slotBytes ⌝ }
     ensures { λ r. ⌜ (r ≡ true → (rangesOrdered (configIn (now (slot .entry))) && rangesApart (configIn (now (slot .entry)))) ≡ true) ⌝ }
 {
-    let first = word_at(slot, 10);
+    let first = word_at(slot, FIRST);
     let mut last = first;
-    let mut at: usize = 10;
-    while at < 38 {
+    let mut at: usize = FIRST;
+    while at < TRUSTED {
         let start = word_at(slot, at);
         let end = word_at(slot, at + 2);
         if last <= start {
@@ -114,18 +80,18 @@ fn rising(slot: &[u8]) -> bool
         }
         at += 4;
     }
-    let start = word_at(slot, 38);
-    let end = word_at(slot, 40);
+    let start = word_at(slot, TRUSTED);
+    let end = word_at(slot, TRUSTED_END);
     if end < start {
         return false;
     }
     if last <= start {
-        return end <= word_at(slot, 8);
+        return end <= word_at(slot, JT_PLACE);
     }
     if first < end {
         return false;
     }
-    last <= word_at(slot, 8)
+    last <= word_at(slot, JT_PLACE)
 }
 
 // Whether the configuration in the slot is good: the test of all pairs is left to code in another order.
@@ -133,13 +99,13 @@ pub fn good_config(slot: &[u8]) -> bool
     requires { ⌜ length (now slot) ≡ slotBytes ⌝ }
     ensures { λ r. ⌜ r ≡ goodConfig (configIn (now (slot .entry))) ⌝ }
 {
-    if !good::good_bounds(config_in(slot)) {
+    if !good::good_bounds(config_at(slot, CONFIG)) {
         return false;
     }
     if rising(slot) {
         return true;
     }
-    good::good_ranges(config_in(slot))
+    good::good_ranges(config_at(slot, CONFIG))
 }
 
 // Whether the state is good and its code as it usually lies; apart from good_state, so that the usual call does not pay for what the rest needs.
@@ -150,7 +116,7 @@ pub fn usual(slot: &[u8]) -> bool
     if !good::good_run(state_in(slot)) {
         return false;
     }
-    if !good::good_bounds(config_in(slot)) {
+    if !good::good_bounds(config_at(slot, CONFIG)) {
         return false;
     }
     rising(slot)
@@ -164,36 +130,28 @@ pub fn good_state(slot: &[u8]) -> bool
     if !good::good_run(state_in(slot)) {
         return false;
     }
-    if !good::good_bounds(config_in(slot)) {
+    if !good::good_bounds(config_at(slot, CONFIG)) {
         return false;
     }
-    good::good_ranges(config_in(slot))
-}
-
-// The code range of a domain.
-pub fn code_at(slot: &[u8], domain: u8) -> Range
-    requires { ⌜ (length (now slot) ≡ slotBytes) × (domain ≤ trusted) ⌝ }
-    ensures { λ r. ⌜ r ≡ rangeOf (configIn (now (slot .entry))) domain ⌝ }
-{
-    range_at(slot, 10 + 4 * (domain as usize))
+    good::good_ranges(config_at(slot, CONFIG))
 }
 
 // The bound, the safe pointer and the domain: five bytes, and no other.
 fn write_run(slot: &mut [u8], state: State)
     requires { ⌜ length (now slot) ≡ slotBytes ⌝ }
-    ensures { λ _. ⌜ now (slot .exit) ≡ sets (now (slot .entry)) boundIn (runBytes state) ⌝ }
+    ensures { λ _. ⌜ now (slot .exit) ≡ sets (now (slot .entry)) runPart (runAsBytes state) ⌝ }
 {
-    slot[42] = low(state.bound.0);
-    slot[43] = high(state.bound.0);
-    slot[44] = low(state.safepointer.0);
-    slot[45] = high(state.safepointer.0);
-    slot[46] = state.domain;
+    slot[BOUND] = low(state.bound.0);
+    slot[BOUND + 1] = high(state.bound.0);
+    slot[SAFEPOINTER] = low(state.safepointer.0);
+    slot[SAFEPOINTER + 1] = high(state.safepointer.0);
+    slot[DOMAIN] = state.domain;
 }
 
 // What a call or a return gave, its answer as one number: written only when done.
 pub fn change(slot: &mut [u8], outcome: Outcome) -> u32
     requires { ⌜ length (now slot) ≡ slotBytes ⌝ }
-    ensures { λ r. ⌜ (r ≡ packed (outcome .answer)) × (now (slot .exit) ≡ after (outcome .answer) (now (slot .entry)) (sets (now (slot .entry)) boundIn (runBytes (outcome .state)))) ⌝ }
+    ensures { λ r. ⌜ (r ≡ packed (outcome .answer)) × (now (slot .exit) ≡ after (outcome .answer) (now (slot .entry)) (sets (now (slot .entry)) runPart (runAsBytes (outcome .state)))) ⌝ }
 {
     let answer = outcome.answer;
     match answer {
@@ -209,14 +167,14 @@ pub fn change(slot: &mut [u8], outcome: Outcome) -> u32
 // What set-up gave: the configuration stands in the slot already.
 pub fn set_up(slot: &mut [u8], outcome: Outcome) -> u32
     requires { ⌜ length (now slot) ≡ slotBytes ⌝ }
-    ensures { λ r. ⌜ (r ≡ packed (outcome .answer)) × (now (slot .exit) ≡ after (outcome .answer) (now (slot .entry)) (sets (now (slot .entry)) boundIn (runBytes (outcome .state) ++ (0 ∷ [])))) ⌝ }
+    ensures { λ r. ⌜ (r ≡ packed (outcome .answer)) × (now (slot .exit) ≡ after (outcome .answer) (now (slot .entry)) (sets (now (slot .entry)) runPart (runAsBytes (outcome .state) ++ (0 ∷ [])))) ⌝ }
 {
     let answer = outcome.answer;
     match answer {
         Answer::Done(value) => {
             let state = outcome.state;
             write_run(slot, state);
-            slot[47] = 0;
+            slot[ZERO] = 0;
             return value as u32;
         }
         Answer::Refused(refusal) => return refused(refusal),

@@ -1,6 +1,6 @@
 -- The meaning of a code: free, the start of a segment of a domain, or a later block of one; and who is a domain, who a module.
 -- Assumes nothing.
-use Prim.Native.Nat.{ℕ, zero, suc, _+_, _*_, _%_, _≤_, _<_}
+use Prim.Native.Nat.{ℕ, zero, suc, _+_, _*_, _/_, _%_, _≤_, _<_}
 use mathlib.Core.Path.{_≡_, refl, sym, ap}
 use mathlib.Core.Logic.{_≢_}
 use mathlib.Core.Bool.{Bool, true, false, cond, and-false}
@@ -11,6 +11,7 @@ use borrow.Author.Tests.{eqb-true, eqb-false, leb-true, ltb-true, ne-eqb, eq-eqb
 use lib.Dec.{eqb, ltb}
 use Rattle.rules.specs.declared.Config.{Config}
 use Rattle.rules.specs.Memory.{Width, fourBits, Layout, widthOf, layoutOf, radixBy, radix, trusted, domainBy, moduleBy, isDomain, isModule, startCodeBy, laterCodeBy, freeCodeBy, ownerBy, startCode, laterCode, freeCode, ownerOf, startsSegment, segmentCodes, heapBlock, safeBlock, blocks}
+use Rattle.rules.specs.Code.{tableWords, domainWords}
 use Rattle.rules.specs.SetUp.{setUpCode, setUpCodes}
 use Rattle.laws.proofs.Tests.{byTest}
 use Rattle.laws.proofs.AllBelow.{AllBelow, none, one, all-replicate}
@@ -31,6 +32,9 @@ domain-module-by fourBits d h n = lt-ltb d trusted (omega (arith, leb-true d tru
 
 trusted-domain-by : (w : Width) → domainBy w trusted ≡ true
 trusted-domain-by fourBits = refl
+
+called-domain-by : (w : Width) (word : ℕ) → word < tableWords → domainBy w (word / domainWords) ≡ true
+called-domain-by fourBits word h = le-leb (word / domainWords) trusted (omega arith)
 
 module _ (c : Config) where
   pub domain-le : (d : ℕ) → isDomain c d ≡ true → d ≤ trusted
@@ -61,6 +65,11 @@ module _ (c : Config) where
   pub trusted-domain : isDomain c trusted ≡ true
   unfolding isDomain
   trusted-domain = trusted-domain-by (layoutOf c .width)
+
+  -- the domain of a word of the jump tables
+  pub called-domain : (word : ℕ) → word < tableWords → isDomain c (word / domainWords) ≡ true
+  unfolding isDomain
+  called-domain = called-domain-by (layoutOf c .width)
 
 -- ---- the numbers of Table 1, each opened once for every width
 

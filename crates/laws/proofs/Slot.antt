@@ -3,17 +3,26 @@
 -- Assumes nothing.
 use Prim.Native.Nat.{ℕ, _+_, _<_, _≤_}
 use mathlib.Core.Path.{_≡_, refl, sym, ap, _∙_}
+use mathlib.Core.Bool.{true}
 use mathlib.Core.List.{List, [], _∷_, _++_, append-nil}
 use native.Mathlib.Omega.{arith}
 use lib.ListN.{length, getD, take, drop, length-append, drop-of-length-le}
+use lib.Dec.{leb}
+use borrow.Author.Tests.{leb-true}
 use lib.Seq.{sets, set-getD, take-at, drop-cons, getD-drop, getD-append-add, sets-eq, drop-at}
+use Rattle.rules.specs.declared.FlashWord.{FlashWord}
+use Rattle.rules.specs.declared.Range.{Range}
 use Rattle.rules.specs.declared.Config.{Config}
 use Rattle.rules.specs.declared.State.{State}
-use Rattle.rules.specs.Code.{domains}
-use Rattle.rules.specs.Bytes.{wordAt, configBytes, rangesPlace, configAsBytes}
+use Rattle.rules.specs.Memory.{trusted}
+use Rattle.rules.specs.Code.{domains, ordered}
+use Rattle.rules.specs.State.{goodState}
+use Rattle.rules.specs.Bytes.{wordAt, rangesPlace, rangesAsBytes, boundsAsBytes, configAsBytes}
 use Rattle.rules.specs.Slot.{slotBytes, configPart, runPart, boundPlace, safepointerPlace, domainPlace, zeroPart, configIn, stateIn, runAsBytes, slotOf}
 use Rattle.laws.proofs.Parts.{getD-sets-after}
-use Rattle.laws.proofs.Frames.{word-of-bytes}
+use Rattle.laws.proofs.Tests.{each}
+use Rattle.laws.proofs.Good.{GoodState, goodState-facts, domain≤trusted, bot<heap}
+use Rattle.laws.proofs.Frames.{word-of-bytes, AllBytes, byte-at}
 use Rattle.laws.proofs.Bytes.{Bytes, length-configAsBytes, length-rangesAt, word-drop, word-from, config-back, word-again, config-again}
 
 -- the bytes behind the configuration
@@ -27,6 +36,34 @@ parts s = refl
 pub length-slotOf : (s : State) → length (s .config .ranges) ≡ domains → length (slotOf s) ≡ slotBytes
 length-slotOf s eight =
     rw (parts s, length-append (configAsBytes (s .config)) (behind s)) (omega (arith, length-configAsBytes (s .config) eight))
+
+-- ---- a good state's slot holds bytes
+
+bytes-append : (xs ys : List ℕ) → AllBytes xs → AllBytes ys → AllBytes (xs ++ ys)
+bytes-append [] ys h k = k
+bytes-append (x ∷ xs) ys h k = (h .0, bytes-append xs ys (h .1) k)
+
+-- "start <= end <= jt", and jt is of sixteen bits
+ranges-bytes : (jt : FlashWord) (rs : List Range) → jt .0 < 65536 → ordered jt rs ≡ true → AllBytes (rangesAsBytes rs)
+unfolding rangesAsBytes ordered
+ranges-bytes jt [] h o = tt
+ranges-bytes jt (r ∷ rs) h o =
+    let (a, (b, more)) = each (leb (r .start .0) (r .end .0)) (leb (r .end .0) (jt .0) ∷ ordered jt rs ∷ []) o in
+    let l : r .start .0 ≤ r .end .0 = leb-true (r .start .0) (r .end .0) a in
+    let u : r .end .0 ≤ jt .0 = leb-true (r .end .0) (jt .0) b in
+    (omega arith, (omega arith, (omega arith, (omega arith, ranges-bytes jt rs h more))))
+
+pub slotOf-bytes : (s : State) → goodState s ≡ true → Bytes (slotOf s)
+slotOf-bytes s h =
+    let g : GoodState s = goodState-facts s h in
+    let c : Config = s .config in
+    let d : s .domain ≤ trusted = domain≤trusted g in
+    rw (parts s)
+    (byte-at (configAsBytes c ++ behind s)
+    (bytes-append (configAsBytes c) (behind s)
+    (bytes-append (boundsAsBytes c) (rangesAsBytes (c .ranges)) (omega (arith, bot<heap (g .config)))
+    (ranges-bytes (c .jt) (c .ranges) (omega arith) (g .config .rangesOrdered)))
+    (omega arith)))
 
 -- ---- unpacking a packed state
 

@@ -22,7 +22,7 @@ use Rattle.rules.specs.Code.{tableWords}
 use Rattle.rules.specs.State.{goodState, fresh, zeros}
 use Rattle.rules.specs.Answers.{Given, Gives, give}
 use Rattle.rules.specs.SetUp.{setUpAnswer, setUpRam, setUpOf}
-use Rattle.rules.specs.Operations.{lending, wrongLent, seenBy, stateAfter, ramAfter, answerBy, operationOf}
+use Rattle.rules.specs.Operations.{lending, nothing, wrongLent, seenBy, stateAfter, ramAfter, answerBy, operationOf}
 use Rattle.rules.specs.Slot.{slotBytes, runPart, zeroPart, configIn, stateIn, runAsBytes, slotOf, packed, GivesToC, toC, wrongSize, cSetUpOf, tableIn, wrongTable, cOperation, cOperationOf}
 use Rattle.laws.proofs.Tests.{neither}
 use Rattle.laws.proofs.Bytes.{Bytes, length-wordsAt}
@@ -53,6 +53,15 @@ right-table table Return = refl
 right-table table (Malloc size) = refl
 right-table table (Free a) = refl
 right-table table (Change a d) = refl
+
+-- and where a table of bytes is wrong, so is no table
+pub no-table : (table : List ℕ) (op : Operation) → wrongTable table op ≡ true → wrongLent nothing op ≡ true
+no-table table (Store a b) h = h
+no-table table (Call t site p) h = refl
+no-table table Return h = h
+no-table table (Malloc size) h = h
+no-table table (Free a) h = h
+no-table table (Change a d) h = h
 
 -- lengths, byte 47 and the state are good
 pub record Ready (slot ram : List ℕ) : Type 0 where

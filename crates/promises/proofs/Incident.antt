@@ -1,76 +1,79 @@
 -- What a domain has is out of every other module's reach; so the incident cannot happen.
 -- Assumes nothing.
 use Prim.Native.Nat.{ℕ}
-use mathlib.Core.Path.{_≡_, refl, sym, _∙_}
+use mathlib.Core.Path.{_≡_, refl, sym, _∙_, subst}
 use mathlib.Core.Logic.{inl, ⊎-elim, _≢_}
 use native.Mathlib.Omega.{arith}
-use lib.ListN.{length, set}
-use borrow.Author.Tests.{eq-eqb, ne-eqb, lt-leb, lt-ltb, le-ltb}
+use borrow.Author.Tests.{ne-eqb, lt-leb, lt-ltb, le-ltb}
 use Rattle.rules.specs.declared.RamByte.{RamByte}
 use Rattle.rules.specs.declared.Config.{Config}
-use Rattle.rules.specs.declared.Answer.the-variants.{Done}
+use Rattle.rules.specs.declared.Answer.the-variants.{Done, Refused}
+use Rattle.rules.specs.declared.Operation.the-variants.{Store, Free}
+use Rattle.rules.specs.declared.Refusal.the-variants.{OtherOwner}
 use Rattle.rules.specs.Memory.{ramBytes, heapBlock, trusted}
 use Rattle.rules.specs.State.{ramByte}
-use Rattle.rules.specs.Store.{storeAnswer}
-use Rattle.laws.proofs.Rows.{give-answer}
+use Rattle.rules.specs.Operations.{operationOf}
+use Rattle.laws.proofs.Codes.{module-lt}
 use Rattle.laws.proofs.Good.{GoodConfig, goodState-true, bot<heap}
-use Rattle.promises.specs.Operations.{Operation, store, free}
-use Rattle.promises.specs.History.{History, _then_, stateOf, ramOf, domainOf, byteAt, answerTo, Says, Assumed, Stretch, none, next}
-use Rattle.promises.specs.Calls.{openCalls}
+use Rattle.laws.proofs.Operations.{below}
+use Rattle.promises.specs.History.{Asked, History, _then_, stateOf, ramOf, configOf, domainOf, byteAt, answerTo, Says, Assumed, Stretch, none, next}
 use Rattle.promises.specs.Ledger.{Segment, ledger, InSegment}
 use Rattle.promises.specs.Promise.{_∈_, GivesUp, StoredByHolder}
 use Rattle.promises.specs.Incident.{NotGivenUp, Protected, NoIncident}
-use Rattle.promises.proofs.Says.{says-done}
+use Rattle.promises.proofs.Says.{says-done, answer-by}
 use Rattle.promises.proofs.Row.{row-in-heap}
-use Rattle.promises.proofs.Holds.{HoldsAfter}
-use Rattle.promises.proofs.Steps.{always, earlier}
+use Rattle.promises.proofs.Steps.{Always, always, earlier, same-config}
 use Rattle.promises.proofs.Change.{segment-step, segment-place, segment-owner, unchanged}
-use Rattle.promises.proofs.Keeping.{segment-stays, freed-own}
+use Rattle.promises.proofs.Keeping.{segment-stays, freed-segment}
 
 -- who frees is no trusted domain, which has no segment
-freed-by-module : (h : History) → Assumed h → (a : RamByte) (n : ℕ) → answerTo h (free a) ≡ Done n → domainOf h ≢ trusted
-freed-by-module h assumed a n done d =
-    let i : HoldsAfter h = always h assumed .1 in
+freed-by-module : (h : History) → Assumed h → (o : Asked) (a : RamByte) (n : ℕ) → o .operation ≡ Free a → answerTo h o ≡ Done n → domainOf h ≢ trusted
+freed-by-module h assumed o a n q done d =
+    let (_, i) = always h assumed in
     let c : Config = stateOf h .config in
-    let (g, m, _, _, own) = freed-own h i a n done in
-    omega (arith, d, own, row-in-heap c (heapBlock c) (ledger h) (i .row) g m .byModule)
+    let (g, m, _, _, own) = freed-segment h i o a n q done in
+    omega (arith, d, own, module-lt c (g .owner) (row-in-heap c (heapBlock c) (ledger h) (i .row) g m .byModule))
 
-module _ (h : History) (i : HoldsAfter h) (g : Segment) (m : g ∈ ledger h)
+module _ (h : History) (k : Always h) (g : Segment) (m : g ∈ ledger h)
     (other : domainOf h ≢ g .owner) (module-current : domainOf h ≢ trusted) where
-  refused-store : (x : ℕ) → InSegment g x → (b : ℕ) → Says (answerTo h (store (ramByte x) b)) 5 0
-  refused-store x q b =
+  refused-store : (x : ℕ) → InSegment (configOf h) g x → (o : Asked) (b : ℕ) → o .operation ≡ Store (ramByte x) b → Says (answerTo h o) 5 0
+  refused-store x q o b e =
       let c : Config = stateOf h .config in
-      let good : GoodConfig c = i .good .config in
-      let (from, to) = segment-place (stateOf h) (ramOf h) (ledger h) (openCalls h) i g m (ramByte x) q in
-      rw (give-answer (storeAnswer (stateOf h) (ramOf h) (ramByte x)) (stateOf h) (ramOf h) (stateOf h) (set (ramOf h) x b)) (rw (
-        eq-eqb (length (ramOf h)) ramBytes (i .size),
-        goodState-true (stateOf h) (i .good),
+      let good : GoodConfig c = k .1 .good .config in
+      let (from, to) = segment-place h k g m x q in
+      let answer : operationOf (stateOf h) (ramOf h) (o .lent) (Store (ramByte x) b) .answer ≡ Refused OtherOwner =
+      answer-by (stateOf h) (ramOf h) (o .lent) (Store (ramByte x) b)
+      ∙ below (stateOf h) (ramOf h) (o .lent) (Store (ramByte x) b) refl (k .1 .size) (goodState-true (stateOf h) (k .1 .good))
+      ∙ (rw (
         lt-leb ramBytes x (omega (arith, good .safe≤top, good .top≤ram)),
         ne-eqb (domainOf h) trusted module-current,
         le-ltb x (c .bot .0) (omega (arith, bot<heap good)),
         lt-ltb x (c .top .0) (omega (arith, good .safe≤top)),
-        segment-owner (stateOf h) (ramOf h) (ledger h) (openCalls h) i g m (ramByte x) q,
+        segment-owner h k g m x q,
         ne-eqb (g .owner) (domainOf h) (λ e. other (sym e)),
-      ) (refl, refl))
+      )) in
+      rw (e, answer) (refl, refl)
 
-  same-bytes : (x : ℕ) → InSegment g x → (o : Operation) → byteAt (h then o) x ≡ byteAt h x
+  same-bytes : (x : ℕ) → InSegment (configOf h) g x → (o : Asked) → byteAt (h then o) x ≡ byteAt h x
   same-bytes x q o =
-      unchanged _ _ (segment-step h i g o (inl m) x q)
+      unchanged _ _ (segment-step h k o g (inl m) x q)
       (⊎-elim (λ w. other (w .3)) (λ w. module-current (w .3)))
 
 -- ---- for any number of operations
 
-held-on : (h : History) (g : Segment) → g ∈ ledger h → (P : History → Operation → Type 0) → ((k : History) (o : Operation) → P k o → GivesUp g k o → ⊥)
+held-on : (h : History) (g : Segment) → g ∈ ledger h → (P : History → Asked → Type 0) → ((k : History) (o : Asked) → P k o → GivesUp g k o → ⊥)
     → {l : History} → Assumed l → Stretch P h l → g ∈ ledger l
 held-on h g m P keeps a none = m
 held-on h g m P keeps a (next {h = k} {o = o} before p) =
     segment-stays k (always k (a .0) .1) g (held-on h g m P keeps (a .0) before) o (keeps k o p)
 
-same-on : (h : History) (g : Segment) → g ∈ ledger h → (x : ℕ) → InSegment g x → {l : History} → Assumed l
+same-on : (h : History) (g : Segment) → g ∈ ledger h → (x : ℕ) → InSegment (configOf h) g x → {l : History} → Assumed l
     → Stretch (λ k o. (GivesUp g k o → ⊥) × (StoredByHolder g x k o → ⊥)) h l → byteAt l x ≡ byteAt h x
 same-on h g m x q a none = refl
 same-on h g m x q a (next {h = k} {o = o} before (keeps, never)) =
-    unchanged _ _ (segment-step k (always k (a .0) .1) g o (inl (held-on h g m _ (λ k o p. p .0) (a .0) before)) x q) never
+    unchanged _ _
+    (segment-step k (always k (a .0)) o g (inl (held-on h g m _ (λ k o p. p .0) (a .0) before)) x
+    (subst (λ (c : Config). InSegment c g x) (sym (same-config _ h before)) q)) never
     ∙ same-on h g m x q (a .0) before
 
 pub out-of-reach : Protected
@@ -79,11 +82,11 @@ out-of-reach h d g m other-module another =
       held = there;
       forLong = λ l a x q along. same-on h g m x q a along;
       powerless = λ l k now.
-          let i : HoldsAfter l = always l (k .0) .1 in
+          let w : Always l = always l (k .0) in
           record {
-            refused = refused-store l i g (there l k) (other l now) (module-current l now);
-            same = same-bytes l i g (there l k) (other l now) (module-current l now);
-            stays = λ o. segment-stays l i g (there l k) o (λ gives. other l now (gives .0));
+            refused = refused-store l w g (there l k) (other l now) (module-current l now);
+            same = same-bytes l w g (there l k) (other l now) (module-current l now);
+            stays = λ o. segment-stays l (w .1) g (there l k) o (λ gives. other l now (gives .0));
           };
     }
   where
@@ -99,5 +102,7 @@ out-of-reach h d g m other-module another =
 pub incident : NoIncident
 incident h a d g p =
     out-of-reach h d g (p .has)
-    (λ e. freed-by-module (p .once) (earlier _ _ a (p .since) .0) (ramByte (p .had .address)) _ (says-done _ _ (p .freed, refl)) (p .byIt ∙ e))
+    (λ e.
+    freed-by-module (p .once) (earlier _ _ a (p .since) .0) (p .asked) (ramByte (p .had .address)) _ (p .frees) (says-done _ _ (p .freed, refl))
+    (p .byIt ∙ e))
     (p .another)

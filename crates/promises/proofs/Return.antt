@@ -2,7 +2,7 @@
 -- Assumes nothing.
 use Prim.Native.Nat.{ℕ, _+_, _-_, _≤_, _<_}
 use mathlib.Core.Path.{_≡_, refl, sym, ap, _∙_}
-use mathlib.Core.Bool.{Bool, false, not}
+use mathlib.Core.Bool.{Bool, false}
 use mathlib.Core.List.{List, [], _∷_}
 use native.Mathlib.Omega.{arith}
 use lib.ListN.{length, length-append, take, drop}
@@ -11,31 +11,30 @@ use lib.Dec.{eqb}
 use borrow.Author.Tests.{eq-eqb, ne-eqb, le-ltb, lt-leb}
 use Rattle.rules.specs.declared.State.{State}
 use Rattle.rules.specs.declared.Config.{Config}
+use Rattle.rules.specs.declared.Frame.{Frame}
 use Rattle.rules.specs.declared.Answer.the-variants.{Done, Refused}
 use Rattle.rules.specs.declared.Refusal.{Refusal}
-use Rattle.rules.specs.declared.Refusal.the-variants.{WrongSize, BadState, NoFrame, DamagedFrame}
-use Rattle.rules.specs.Memory.{ramBytes}
-use Rattle.rules.specs.State.{goodState, ramByte}
+use Rattle.rules.specs.declared.Operation.the-variants.{Return}
+use Rattle.rules.specs.declared.Refusal.the-variants.{NoFrame, DamagedFrame}
+use Rattle.rules.specs.Memory.{ramBytes, inUse}
+use Rattle.rules.specs.State.{ramByte, running}
 use Rattle.rules.specs.Call.{frameBytes}
-use Rattle.rules.specs.Return.{readFrame, topFrame, damaged, siteOf, returnAnswer, returned, returnOf}
+use Rattle.rules.specs.Return.{readFrame, topFrame, damaged, siteOf, returned}
+use Rattle.rules.specs.Operations.{Lent, answerBy, operationOf}
 use Rattle.laws.proofs.Tests.{or-false}
 use Rattle.laws.proofs.Rows.{none-holds}
 use Rattle.laws.proofs.Parts.{slice-as}
 use Rattle.laws.proofs.Frames.{IsFrame, readFrame-back}
+use Rattle.laws.proofs.Codes.{domain-le}
 use Rattle.laws.proofs.Good.{goodState-true}
-use Rattle.promises.specs.Operations.{return}
+use Rattle.laws.proofs.Operations.{below}
 use Rattle.promises.specs.Ledger.{Segment}
-use Rattle.promises.specs.Calls.{Kind, local, cross, OpenCall, domainIn, boundIn, frameFor, framesOf, Returns}
-use Rattle.promises.proofs.Holds.{Link, Holds, Kept}
+use Rattle.promises.specs.Calls.{Kind, local, cross, OpenCall, domainInside, boundInside, frameFor, framesOf, Returns}
+use Rattle.promises.proofs.Holds.{Link, Holds, Kept, plain}
 
 -- the table of return
-abbrev frameRows : State → List ℕ → List (Bool × Refusal)
-frameRows s ram =
-    (not (eqb (length ram) ramBytes), WrongSize)
-    ∷ (not (goodState s), BadState)
-    ∷ (eqb (s .safepointer .0) (s .config .safe .0), NoFrame)
-    ∷ (damaged s (topFrame s ram), DamagedFrame)
-    ∷ []
+abbrev pub returnTests : State → Frame → List (Bool × Refusal)
+returnTests s frame = (eqb (s .safepointer .0) (s .config .safe .0), NoFrame) ∷ (damaged s frame, DamagedFrame) ∷ []
 
 -- ---- a frame by the call's kind
 
@@ -50,9 +49,9 @@ site-of (cross f p) k = refl
 module _ (s : State) (k : OpenCall) (ks : List OpenCall) (link : Link (s .config) k ks) where
   is-frame : (kind : Kind) → IsFrame (frameFor kind k)
   is-frame local = tt
-  is-frame (cross f p) = link .domain≤trusted
+  is-frame (cross f p) = domain-le (s .config) (k .domain) (link .byDomain)
 
-  sound : (kind : Kind) → s .domain ≡ domainIn kind (k .domain) → s .bound .0 ≤ k .bound .0 → damaged s (frameFor kind k) ≡ false
+  sound : (kind : Kind) → s .domain ≡ domainInside kind (k .domain) → s .bound .0 ≤ k .bound .0 → damaged s (frameFor kind k) ≡ false
   sound local current bound = rw (current, link .site)
   sound (cross f p) current bound =
       rw (link .site)
@@ -60,17 +59,11 @@ module _ (s : State) (k : OpenCall) (ks : List OpenCall) (link : Link (s .config
 
   -- the state as it was before the call, the frame gone
   abbrev before : Kind → State
-  before kind =
-      record {
-        config = s .config;
-        domain = k .domain;
-        bound = k .bound;
-        safepointer = ramByte (s .safepointer .0 - length (frameBytes (frameFor kind k)));
-      }
+  before kind = running s (k .domain) (k .bound) (ramByte (s .safepointer .0 - length (frameBytes (frameFor kind k))))
 
-  back : (kind : Kind) → s .domain ≡ domainIn kind (k .domain) → s .bound ≡ boundIn kind (k .bound) → returned s (frameFor kind k) ≡ before kind
+  back : (kind : Kind) → s .domain ≡ domainInside kind (k .domain) → s .bound ≡ boundInside kind (k .bound) → returned s (frameFor kind k) ≡ before kind
   back local current bound =
-      λ i. record { config = s .config; domain = current i; bound = bound i; safepointer = ramByte (s .safepointer .0 - 3) }
+      λ i. running s (current i) (bound i) (ramByte (s .safepointer .0 - 3))
   back (cross f p) current bound = refl
 
 -- ---- no call is open
@@ -83,9 +76,9 @@ module _ (s : State) (ram : List ℕ) (gs : List Segment) (h : Holds s ram gs []
       length-slice (s .config .safe .0) (s .safepointer .0) ram (omega (arith, h .size, h .good .safepointer≤top, h .good .config .top≤ram)) in
       omega (arith, l, ap length (h .frames), h .good .safe≤safepointer)
 
-  pub no-frame : returnAnswer s ram ≡ Refused NoFrame
-  no-frame =
-      rw (eq-eqb (length ram) ramBytes (h .size), goodState-true s (h .good), eq-eqb (s .safepointer .0) (s .config .safe .0) nothing-held)
+  no-frame : (l : Lent) → answerBy inUse s ram l Return ≡ Refused NoFrame
+  no-frame l =
+      below s ram l Return refl (h .size) (goodState-true s (h .good)) ∙ (rw (eq-eqb (s .safepointer .0) (s .config .safe .0) nothing-held))
 
 -- ---- a call is open
 
@@ -107,21 +100,16 @@ module _ (s : State) (ram : List ℕ) (gs : List Segment) (k : OpenCall) (ks : L
   unfolding framesOf
   top-frame = ap readFrame (h .frames) ∙ readFrame-back (frameFor (k .kind) k) (is-frame s k ks (h .chain .0) (k .kind)) (framesOf ks)
 
-  pub returns-site : returnAnswer s ram ≡ Done (k .site .0)
-  returns-site =
-      none-holds (frameRows s ram) (Done (siteOf (topFrame s ram))) (
-        (rw (eq-eqb (length ram) ramBytes (h .size))),
-        (
-          (rw (goodState-true s (h .good))),
-          (
-            ne-eqb (s .safepointer .0) (s .config .safe .0) (λ e. omega (arith, held, frame-some (k .kind) k)),
-            (ap (damaged s) top-frame ∙ sound s k ks (h .chain .0) (k .kind) (h .current) bound≤, tt),
-          ),
-        ),
+  returns-site : (l : Lent) → answerBy inUse s ram l Return ≡ Done (k .site .0)
+  returns-site l =
+      below s ram l Return refl (h .size) (goodState-true s (h .good))
+      ∙ none-holds (returnTests s (topFrame s ram)) (Done (siteOf (topFrame s ram))) (
+        ne-eqb (s .safepointer .0) (s .config .safe .0) (λ e. omega (arith, held, frame-some (k .kind) k)),
+        (ap (damaged s) top-frame ∙ sound s k ks (h .chain .0) (k .kind) (h .current) bound≤, tt),
       )
       ∙ ap Done (ap siteOf top-frame ∙ site-of (k .kind) k)
 
-  pub returns-state : returned s (topFrame s ram) ≡ before s k ks (h .chain .0) (k .kind)
+  returns-state : returned s (topFrame s ram) ≡ before s k ks (h .chain .0) (k .kind)
   returns-state = ap (returned s) top-frame ∙ back s k ks (h .chain .0) (k .kind) (h .current) (h .bound)
 
   pop-keeps : Holds (before s k ks (h .chain .0) (k .kind)) ram gs ks
@@ -134,7 +122,7 @@ module _ (s : State) (ram : List ℕ) (gs : List Segment) (k : OpenCall) (ks : L
         good =
             record {
               config = h .good .config;
-              domain≤trusted = h .chain .0 .domain≤trusted;
+              domain = h .chain .0 .byDomain;
               top≤bound = omega (arith, h .good .top≤bound, bound≤);
               bound<ram = h .chain .0 .bound<ram;
               safe≤safepointer = omega (arith, held, h .good .safe≤safepointer, frame-some (k .kind) k);
@@ -156,13 +144,20 @@ module _ (s : State) (ram : List ℕ) (gs : List Segment) (k : OpenCall) (ks : L
 
 -- ---- both
 
-pub return-gives : (s : State) (ram : List ℕ) (gs : List Segment) (ks : List OpenCall) → Holds s ram gs ks → Returns ks (returnOf s ram)
-return-gives s ram gs [] h = rw (no-frame s ram gs h) (refl, refl)
-return-gives s ram gs (k ∷ ks) h =
-    rw (returns-site s ram gs k ks h)
+pub return-gives : (s : State) (ram : List ℕ) (gs : List Segment) (ks : List OpenCall) → Holds s ram gs ks → (l : Lent)
+    → Returns ks (operationOf s ram l Return)
+return-gives s ram gs [] h l = rw (no-frame s ram gs h l) (refl, refl)
+return-gives s ram gs (k ∷ ks) h l =
+    rw (returns-site s ram gs k ks h l)
     ((refl, refl), ap (λ (t : State). t .domain) (returns-state s ram gs k ks h), ap (λ (t : State). t .bound) (returns-state s ram gs k ks h))
 
-pub return-holds : (s : State) (ram : List ℕ) (gs : List Segment) (ks : List OpenCall) → Holds s ram gs ks
-    → Kept s gs ks return ram (returnOf s ram)
-return-holds s ram gs [] h = rw (no-frame s ram gs h) (h, λ x out. refl)
-return-holds s ram gs (k ∷ ks) h = rw (returns-site s ram gs k ks h, returns-state s ram gs k ks h) (pop-keeps s ram gs k ks h, λ x out. refl)
+pub return-kept : (s : State) (ram : List ℕ) (gs : List Segment) (ks : List OpenCall) → Holds s ram gs ks → (l : Lent)
+    → Kept s ram gs ks Return (operationOf s ram l Return)
+return-kept s ram gs [] h l =
+    rw (no-frame s ram gs h l)
+    (plain s ram gs [] Return (record { answer = Refused NoFrame; state = s; ram = ram }) (h, λ x out. refl, λ b. b))
+return-kept s ram gs (k ∷ ks) h l =
+    let s′ : State = before s k ks (h .chain .0) (k .kind) in
+    rw (returns-site s ram gs k ks h l, returns-state s ram gs k ks h)
+    (plain s ram gs (k ∷ ks) Return (record { answer = Done (k .site .0); state = s′; ram = ram })
+    (pop-keeps s ram gs k ks h, λ x out. refl, λ b. b))

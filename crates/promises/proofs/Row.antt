@@ -12,10 +12,10 @@ use lib.ListN.{getD}
 use lib.Dec.{ltb, eqb}
 use borrow.Author.Tests.{ltb-true, ltb-false, lt-ltb, eq-eqb, ne-eqb}
 use Rattle.rules.specs.declared.Config.{Config}
-use Rattle.rules.specs.Memory.{startCode, laterCode, freeCode, startsSegment, segmentCodes, trusted}
+use Rattle.rules.specs.Memory.{layoutOf, startCode, laterCode, freeCode, startsSegment, segmentCodes, isDomain, isModule}
 use Rattle.laws.proofs.Tests.{byTest, both, and-true}
 use Rattle.laws.proofs.Blocks.{start-mono, start-lt, blockBytes-pos}
-use Rattle.laws.proofs.Codes.{start≢free, start≢later, later≢free, starts-later, starts-free, getD-segmentCodes-first, getD-segmentCodes-later}
+use Rattle.laws.proofs.Codes.{module-domain, domain-at, module-at, start≢free, start≢later, later≢free, starts-later, starts-free, getD-segmentCodes-first, getD-segmentCodes-later}
 use Rattle.promises.specs.Ledger.{Segment, entered, replacedAt, struck, madeOver, firstBlock, endBlock, HeapSegment, Apart, codeBy}
 use Rattle.promises.specs.Promise.{_∈_}
 
@@ -40,12 +40,12 @@ module _ (c : Config) where
 
   -- ---- the codes
 
-  pub code-first : (g : Segment) (gs : List Segment) (k : ℕ) → k ≡ firstBlock c g → codeBy c (g ∷ gs) k ≡ startCode (g .owner)
+  pub code-first : (g : Segment) (gs : List Segment) (k : ℕ) → k ≡ firstBlock c g → codeBy c (g ∷ gs) k ≡ startCode (layoutOf c) (g .owner)
   unfolding codeBy
   code-first g gs k e = rw (eq-eqb k (firstBlock c g) e)
 
   pub code-later : (g : Segment) (gs : List Segment) (k : ℕ) → firstBlock c g < k → k < endBlock c g
-      → codeBy c (g ∷ gs) k ≡ laterCode (g .owner)
+      → codeBy c (g ∷ gs) k ≡ laterCode (layoutOf c) (g .owner)
   unfolding codeBy
   code-later g gs k l u =
       rw (ne-eqb k (firstBlock c g) (λ e. omega arith), lt-ltb (firstBlock c g) k l, lt-ltb k (endBlock c g) u)
@@ -62,12 +62,12 @@ module _ (c : Config) where
       absurd (omega (arith, out (omega arith), ltb-true k (endBlock c g) u)))
       (λ t. rw t))
 
-  pub code-none : (k : ℕ) → codeBy c [] k ≡ freeCode
+  pub code-none : (k : ℕ) → codeBy c [] k ≡ freeCode (layoutOf c)
   unfolding codeBy
   code-none k = refl
 
   -- below the row all is free
-  pub code-below : (lo : ℕ) (gs : List Segment) → Row lo gs → (k : ℕ) → k < lo → codeBy c gs k ≡ freeCode
+  pub code-below : (lo : ℕ) (gs : List Segment) → Row lo gs → (k : ℕ) → k < lo → codeBy c gs k ≡ freeCode (layoutOf c)
   code-below lo [] r k h = code-none k
   code-below lo (g ∷ gs) r k h =
       let l : k < firstBlock c g = omega arith in
@@ -84,11 +84,11 @@ module _ (c : Config) where
 
   -- those of g, in order
   pub code-segment : (g : Segment) (gs : List Segment) (i : ℕ) → i < g .blocks
-      → codeBy c (g ∷ gs) (firstBlock c g + i) ≡ getD (segmentCodes (g .owner) (g .blocks)) i 0
+      → codeBy c (g ∷ gs) (firstBlock c g + i) ≡ getD (segmentCodes (layoutOf c) (g .owner) (g .blocks)) i 0
   code-segment g gs zero l =
-      code-first g gs (firstBlock c g + 0) (omega arith) ∙ sym (getD-segmentCodes-first (g .owner) (g .blocks) l)
+      code-first g gs (firstBlock c g + 0) (omega arith) ∙ sym (getD-segmentCodes-first (layoutOf c) (g .owner) (g .blocks) l)
   code-segment g gs (suc i) l =
-      code-later g gs (firstBlock c g + suc i) (omega arith) (omega arith) ∙ sym (getD-segmentCodes-later (g .owner) (g .blocks) i l)
+      code-later g gs (firstBlock c g + suc i) (omega arith) (omega arith) ∙ sym (getD-segmentCodes-later (layoutOf c) (g .owner) (g .blocks) i l)
 
   code-cong : (g : Segment) (gs fs : List Segment) (k : ℕ) → codeBy c gs k ≡ codeBy c fs k → codeBy c (g ∷ gs) k ≡ codeBy c (g ∷ fs) k
   unfolding codeBy
@@ -107,12 +107,12 @@ module _ (c : Config) where
       code-past f (g ∷ fs) k p (λ h. u) ∙ sym (code-cong g (f ∷ fs) fs k (code-past f fs k p (λ h. u))))
 
   -- no block of a segment is free
-  code-held : (g : Segment) (gs : List Segment) (k : ℕ) → g .owner < trusted → firstBlock c g ≤ k → k < endBlock c g
-      → codeBy c (g ∷ gs) k ≢ freeCode
+  code-held : (g : Segment) (gs : List Segment) (k : ℕ) → isModule c (g .owner) ≡ true → firstBlock c g ≤ k → k < endBlock c g
+      → codeBy c (g ∷ gs) k ≢ freeCode (layoutOf c)
   code-held g gs k m l u e =
       elim (ℕ-discrete k (firstBlock c g)) [
-        | yes q ↦ start≢free (g .owner) m (sym (code-first g gs k q) ∙ e)
-        | no n ↦ later≢free (g .owner) (sym (code-later g gs k (omega arith) u) ∙ e)
+        | yes q ↦ start≢free (layoutOf c) (g .owner) (module-at c (g .owner) m) (sym (code-first g gs k q) ∙ e)
+        | no n ↦ later≢free (layoutOf c) (g .owner) (domain-at c (g .owner) (module-domain c (g .owner) m)) (sym (code-later g gs k (omega arith) u) ∙ e)
       ]
 
   -- ---- blocks and addresses of segments
@@ -120,18 +120,18 @@ module _ (c : Config) where
   address-lt : (g f : Segment) → HeapSegment c g → HeapSegment c f → g .address < f .address → firstBlock c g < firstBlock c f
   address-lt g f hg hf l =
       byTest (ltb (firstBlock c g) (firstBlock c f)) (λ t. ltb-true _ _ t)
-      (λ t. absurd (omega (arith, hg .atBlock, hf .atBlock, start-mono (c .bot) (ltb-false (firstBlock c g) (firstBlock c f) t))))
+      (λ t. absurd (omega (arith, hg .atBlock, hf .atBlock, start-mono c (ltb-false (firstBlock c g) (firstBlock c f) t))))
 
   address-le : (g f : Segment) → HeapSegment c g → HeapSegment c f → g .address ≤ f .address → firstBlock c g ≤ firstBlock c f
   address-le g f hg hf l =
       byTest (ltb (firstBlock c f) (firstBlock c g))
-      (λ t. absurd (omega (arith, hg .atBlock, hf .atBlock, blockBytes-pos, start-lt (c .bot) (ltb-true (firstBlock c f) (firstBlock c g) t))))
+      (λ t. absurd (omega (arith, hg .atBlock, hf .atBlock, blockBytes-pos c, start-lt c (ltb-true (firstBlock c f) (firstBlock c g) t))))
       (λ t. ltb-false _ _ t)
 
   -- ---- entering
 
   pub enter-row : (lo : ℕ) (g : Segment) (gs : List Segment) → HeapSegment c g → lo ≤ firstBlock c g → Row lo gs
-      → ((k : ℕ) → firstBlock c g ≤ k → k < endBlock c g → codeBy c gs k ≡ freeCode)
+      → ((k : ℕ) → firstBlock c g ≤ k → k < endBlock c g → codeBy c gs k ≡ freeCode (layoutOf c))
       → Row lo (entered g gs) × ((k : ℕ) → codeBy c (entered g gs) k ≡ codeBy c (g ∷ gs) k)
   unfolding entered
   enter-row lo g [] hg l r free = ((hg, l, tt), λ k. refl)
@@ -146,7 +146,7 @@ module _ (c : Config) where
           (
             r .0,
             byTest (ltb (firstBlock c f) (endBlock c g))
-                (λ u. absurd (start≢free (f .owner) (r .0 .byModule)
+                (λ u. absurd (start≢free (layoutOf c) (f .owner) (module-at c (f .owner) (r .0 .byModule))
                 (sym (code-first f fs (firstBlock c f) refl) ∙ free (firstBlock c f) (omega arith) (ltb-true _ _ u))))
                 (λ u. ltb-false _ _ u),
             r .2,
@@ -196,30 +196,31 @@ module _ (c : Config) where
       code-past f fs k (r .0 .some) (λ h. omega arith) ∙ member-code (endBlock c f) fs (r .2) g m k l u
 
   -- where the row may begin, nothing goes on
-  code-edge : (lo : ℕ) (gs : List Segment) → Row lo gs → (d : ℕ) → codeBy c gs lo ≢ laterCode d
-  code-edge lo [] r d e = later≢free d (sym e ∙ code-none lo)
-  code-edge lo (g ∷ gs) r d e =
+  code-edge : (lo : ℕ) (gs : List Segment) → Row lo gs → (d : ℕ) → isDomain c d ≡ true → codeBy c gs lo ≢ laterCode (layoutOf c) d
+  code-edge lo [] r d w e = later≢free (layoutOf c) d (domain-at c d w) (sym e ∙ code-none lo)
+  code-edge lo (g ∷ gs) r d w e =
       elim (ℕ-discrete lo (firstBlock c g)) [
-        | yes q ↦ start≢later (g .owner) d (sym (code-first g gs lo q) ∙ e)
+        | yes q ↦ start≢later (layoutOf c) (g .owner) d (sym (code-first g gs lo q) ∙ e)
         | no n ↦
             let l : lo < firstBlock c g = omega (arith, r .1) in
-            later≢free d
+            later≢free (layoutOf c) d (domain-at c d w)
             (sym e ∙ code-past g gs lo (r .0 .some) (λ h. absurd (omega arith)) ∙ code-below (endBlock c g) gs (r .2) lo (omega arith))
       ]
 
   -- nor does it behind a segment
-  pub code-behind : (lo : ℕ) (gs : List Segment) → Row lo gs → (g : Segment) → g ∈ gs → (d : ℕ) → codeBy c gs (endBlock c g) ≢ laterCode d
-  code-behind lo [] r g m d e = absurd m
-  code-behind lo (f ∷ fs) r g (inl q) d e =
-      code-edge (endBlock c f) fs (r .2) d (sym (code-past f fs (endBlock c f) (r .0 .some) (λ h. omega arith)) ∙ (rw q at e))
-  code-behind lo (f ∷ fs) r g (inr m) d e =
+  pub code-behind : (lo : ℕ) (gs : List Segment) → Row lo gs → (g : Segment) → g ∈ gs → (d : ℕ) → isDomain c d ≡ true
+      → codeBy c gs (endBlock c g) ≢ laterCode (layoutOf c) d
+  code-behind lo [] r g m d w e = absurd m
+  code-behind lo (f ∷ fs) r g (inl q) d w e =
+      code-edge (endBlock c f) fs (r .2) d w (sym (code-past f fs (endBlock c f) (r .0 .some) (λ h. omega arith)) ∙ (rw q at e))
+  code-behind lo (f ∷ fs) r g (inr m) d w e =
       let b : endBlock c f ≤ firstBlock c g = member-behind (endBlock c f) fs (r .2) g m in
-      code-behind (endBlock c f) fs (r .2) g m d (sym (code-past f fs (endBlock c g) (r .0 .some) (λ h. omega arith)) ∙ e)
+      code-behind (endBlock c f) fs (r .2) g m d w (sym (code-past f fs (endBlock c g) (r .0 .some) (λ h. omega arith)) ∙ e)
 
   -- a block that starts a segment is the first of one of the row
-  pub holder : (lo : ℕ) (gs : List Segment) → Row lo gs → (k : ℕ) → startsSegment (codeBy c gs k) ≡ true
+  pub holder : (lo : ℕ) (gs : List Segment) → Row lo gs → (k : ℕ) → startsSegment (layoutOf c) (codeBy c gs k) ≡ true
       → (g : Segment) × (g ∈ gs) × (firstBlock c g ≡ k)
-  holder lo [] r k h = absurd (true≢false (sym h ∙ ap startsSegment (code-none k) ∙ starts-free))
+  holder lo [] r k h = absurd (true≢false (sym h ∙ ap (startsSegment (layoutOf c)) (code-none k) ∙ starts-free (layoutOf c)))
   holder lo (f ∷ fs) r k h =
       elim (ℕ-discrete k (firstBlock c f)) [
         | yes e ↦ (f, inl refl, sym e)
@@ -227,13 +228,13 @@ module _ (c : Config) where
             byTest (ltb (firstBlock c f) k && ltb k (endBlock c f))
             (λ t.
             let (l, u) = both (ltb (firstBlock c f) k) (ltb k (endBlock c f)) t in
-            absurd (true≢false (sym h ∙ ap startsSegment (code-later f fs k (ltb-true _ _ l) (ltb-true _ _ u)) ∙ starts-later (f .owner))))
+            absurd (true≢false (sym h ∙ ap (startsSegment (layoutOf c)) (code-later f fs k (ltb-true _ _ l) (ltb-true _ _ u)) ∙ starts-later (layoutOf c) (f .owner))))
             (λ t.
             let out : firstBlock c f ≤ k → endBlock c f ≤ k =
             λ q. byTest (ltb k (endBlock c f))
             (λ u. absurd (true≢false (sym (and-true _ _ (lt-ltb (firstBlock c f) k (omega arith)) u) ∙ t)))
             (λ u. ltb-false _ _ u) in
-            let (g, m, e) = holder (endBlock c f) fs (r .2) k (sym (ap startsSegment (code-past f fs k (r .0 .some) out)) ∙ h) in
+            let (g, m, e) = holder (endBlock c f) fs (r .2) k (sym (ap (startsSegment (layoutOf c)) (code-past f fs k (r .0 .some) out)) ∙ h) in
             (g, inr m, e))
       ]
 
@@ -245,7 +246,7 @@ module _ (c : Config) where
       let hg : HeapSegment c g = row-in-heap (endBlock c f) fs r g m in
       let b : endBlock c f ≤ firstBlock c g = member-behind (endBlock c f) fs r g m in
       let l : firstBlock c f < firstBlock c g = omega (arith, hf .some) in
-      ne-eqb (f .address) (g .address) (λ e. omega (arith, hf .atBlock, hg .atBlock, blockBytes-pos, start-lt (c .bot) l))
+      ne-eqb (f .address) (g .address) (λ e. omega (arith, hf .atBlock, hg .atBlock, blockBytes-pos c, start-lt c l))
 
   -- what may stand in g's place: it fits there, and has its codes in g's blocks alone
   pub record InPlaceOf (g : Segment) (new : List Segment) : Type 0 where
@@ -262,7 +263,7 @@ module _ (c : Config) where
         outside = λ fs k out. refl;
       }
 
-  pub over-place : (d : ℕ) → d < trusted → (g : Segment) → HeapSegment c g → InPlaceOf g (madeOver d g)
+  pub over-place : (d : ℕ) → isModule c d ≡ true → (g : Segment) → HeapSegment c g → InPlaceOf g (madeOver d g)
   over-place d m g h =
       let f : Segment = record { address = g .address; blocks = g .blocks; owner = d } in
       let over : HeapSegment c f =
@@ -310,7 +311,7 @@ module _ (c : Config) where
 
   -- a free block stays free: it is none of g's
   pub replaced-free : (put : Segment → List Segment) (g : Segment) → InPlaceOf g (put g) → (lo : ℕ) (gs : List Segment) → Row lo gs → g ∈ gs
-      → (k : ℕ) → codeBy c gs k ≡ freeCode → codeBy c (replacedAt (g .address) put gs) k ≡ freeCode
+      → (k : ℕ) → codeBy c gs k ≡ freeCode (layoutOf c) → codeBy c (replacedAt (g .address) put gs) k ≡ freeCode (layoutOf c)
   replaced-free put g new lo gs r m k free =
       let (row, inside, outside) = replace-row put g new lo gs r m in
       outside k

@@ -9,6 +9,8 @@ use Rattle.rules.specs.declared.FlashWord.{FlashWord}
 use Rattle.rules.specs.declared.Config.{Config}
 use Rattle.rules.specs.declared.Frame.{Frame}
 use Rattle.rules.specs.declared.Frame.the-variants.{Local, Cross}
+use Rattle.rules.specs.declared.Operation.{Operation}
+use Rattle.rules.specs.declared.Operation.the-variants.{Store, Call, Return, Malloc, Free, Change}
 use Rattle.rules.specs.declared.Answer.{Answer}
 use Rattle.rules.specs.declared.Answer.the-variants.{Done, Refused}
 use Rattle.rules.specs.Memory.{ramBytes, trusted}
@@ -16,7 +18,6 @@ use Rattle.rules.specs.Code.{isLocal, calledDomain}
 use Rattle.rules.specs.State.{ramByte}
 use Rattle.rules.specs.Call.{frameBytes}
 use Rattle.rules.specs.Answers.{Given}
-use Rattle.promises.specs.Operations.{Operation, store, call, return, malloc, free, change}
 use Rattle.promises.specs.History.{History, setUp, _then_, configOf, answerTo, Says}
 
 -- a cross-domain call was made to a domain, with a stack pointer
@@ -34,21 +35,21 @@ pub record OpenCall : Type 0 where
 -- ---- what they leave: the called domain and the pointer of the newest that is cross-domain, what was there before a local one; with none
 -- open, what a fresh state has (section 4)
 
-abbrev pub domainIn : Kind → ℕ → ℕ
-domainIn local d = d
-domainIn (cross e p) d = e
+abbrev pub domainInside : Kind → ℕ → ℕ
+domainInside local d = d
+domainInside (cross e p) d = e
 
-abbrev pub boundIn : Kind → RamByte → RamByte
-boundIn local b = b
-boundIn (cross e p) b = p
+abbrev pub boundInside : Kind → RamByte → RamByte
+boundInside local b = b
+boundInside (cross e p) b = p
 
-abbrev pub domainBy : List OpenCall → ℕ
-domainBy [] = trusted
-domainBy (k ∷ ks) = domainIn (k .kind) (k .domain)
+abbrev pub domainLeft : List OpenCall → ℕ
+domainLeft [] = trusted
+domainLeft (k ∷ ks) = domainInside (k .kind) (k .domain)
 
-abbrev pub boundBy : List OpenCall → RamByte
-boundBy [] = ramByte (ramBytes - 1)
-boundBy (k ∷ ks) = boundIn (k .kind) (k .bound)
+abbrev pub boundLeft : List OpenCall → RamByte
+boundLeft [] = ramByte (ramBytes - 1)
+boundLeft (k ∷ ks) = boundInside (k .kind) (k .bound)
 
 -- ---- made from what was asked and answered. It never looks at the machine.
 
@@ -57,8 +58,8 @@ opened c ks t site p =
     record {
       kind = cond (isLocal c t) local (cross (calledDomain c t) p);
       site = site;
-      domain = domainBy ks;
-      bound = boundBy ks;
+      domain = domainLeft ks;
+      bound = boundLeft ks;
     }
 
 -- without the newest
@@ -68,18 +69,18 @@ older (k ∷ ks) = ks
 
 -- what an operation and its answer make of the open calls, newest first
 abbrev pub noted : Config → Operation → Answer → List OpenCall → List OpenCall
-noted c o (Refused r) ks = ks
-noted c (call table t site p) (Done v) ks = opened c ks t site p ∷ ks
-noted c return (Done v) ks = older ks
+noted c op (Refused r) ks = ks
+noted c (Call t site p) (Done v) ks = opened c ks t site p ∷ ks
+noted c Return (Done v) ks = older ks
 -- the others leave them
-noted c (store a b) (Done v) ks = ks
-noted c (malloc size) (Done v) ks = ks
-noted c (free a) (Done v) ks = ks
-noted c (change a d) (Done v) ks = ks
+noted c (Store a b) (Done v) ks = ks
+noted c (Malloc size) (Done v) ks = ks
+noted c (Free a) (Done v) ks = ks
+noted c (Change a d) (Done v) ks = ks
 
 unfoldable pub openCalls : History → List OpenCall
 openCalls (setUp c ram) = []
-openCalls (h then o) = noted (configOf h) o (answerTo h o) (openCalls h)
+openCalls (h then o) = noted (configOf h) (o .operation) (answerTo h o) (openCalls h)
 
 -- ---- their frames
 

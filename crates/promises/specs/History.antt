@@ -9,22 +9,29 @@ use Rattle.rules.specs.declared.RamByte.{RamByte}
 use Rattle.rules.specs.declared.Config.{Config}
 use Rattle.rules.specs.declared.State.{State}
 use Rattle.rules.specs.declared.Answer.{Answer}
+use Rattle.rules.specs.declared.Operation.{Operation}
+use Rattle.rules.specs.declared.Operation.the-variants.{Store}
 use Rattle.rules.specs.Memory.{mapBytes, trusted}
 use Rattle.rules.specs.State.{ramByte}
 use Rattle.rules.specs.Answers.{Given, numberOf, valueOf}
 use Rattle.rules.specs.SetUp.{setUpOf}
-use Rattle.promises.specs.Operations.{Operation, store, step}
+use Rattle.rules.specs.Operations.{Lent, operationOf}
+
+-- what is asked of the machine: an operation, and what is lent with it beside RAM. What is said of an operation holds whatever is lent.
+pub record Asked : Type 0 where
+  pub operation : Operation
+  pub lent : Lent
 
 infixl 5 _then_
--- read from left to right: `setUp c ram then malloc 20 then return`
+-- read from left to right: `setUp c ram then o then p` is a set-up, then o was asked, then p
 pub data History : Type 0 where
   setUp : (config : Config) (ram : List ℕ) → History
-  _then_ : History → Operation → History
+  _then_ : History → Asked → History
 
 -- what the last operation of a history answered, and the machine that it left
 unfoldable pub after : History → Given
 after (setUp c ram) = setUpOf c ram
-after (h then o) = let m = after h in step (m .state) (m .ram) o
+after (h then o) = let m = after h in operationOf (m .state) (m .ram) (o .lent) (o .operation)
 
 abbrev pub stateOf : History → State
 stateOf h = after h .state
@@ -48,13 +55,13 @@ byteAt h x = getD (ramOf h) x 0
 abbrev pub Says : Answer → ℕ → ℕ → Type 0
 Says a n v = (numberOf a ≡ n) × (valueOf a ≡ v)
 
--- what an operation is answered when it is asked next
-abbrev pub answerTo : History → Operation → Answer
-answerTo h o = step (stateOf h) (ramOf h) o .answer
+-- what is answered when o is asked next
+abbrev pub answerTo : History → Asked → Answer
+answerTo h o = operationOf (stateOf h) (ramOf h) (o .lent) (o .operation) .answer
 
 -- the operation asked next stores some byte b to address x, and is carried out while domain d is current
-abbrev pub StoredBy : History → Operation → ℕ → ℕ → Type 0
-StoredBy h o x d = (b : ℕ) × (o ≡ store (ramByte x) b) × Says (answerTo h o) 0 0 × (domainOf h ≡ d)
+abbrev pub StoredBy : History → Asked → ℕ → ℕ → Type 0
+StoredBy h o x d = (b : ℕ) × (o .operation ≡ Store (ramByte x) b) × Says (answerTo h o) 0 0 × (domainOf h ≡ d)
 
 -- address x lies in the map; in the safe stack area
 abbrev pub InMap : Config → ℕ → Type 0
@@ -74,9 +81,9 @@ Bytes ram = (i : ℕ) → getD ram i 0 < 256
 
 abbrev pub BytesGiven : History → Type 0
 BytesGiven (setUp c ram) = Bytes ram
-BytesGiven (h then o) = BytesGiven h × ((a : RamByte) (b : ℕ) → o ≡ store a b → b < 256)
+BytesGiven (h then o) = BytesGiven h × ((a : RamByte) (b : ℕ) → o .operation ≡ Store a b → b < 256)
 
 -- a stretch of a history, from one moment to a later one: P holds of each of its operations and of the history before that operation
-pub data Stretch (P : History → Operation → Type 0) (from : History) : History → Type 0 where
+pub data Stretch (P : History → Asked → Type 0) (from : History) : History → Type 0 where
   none : Stretch P from from
-  next : {h : History} {o : Operation} → Stretch P from h → P h o → Stretch P from (h then o)
+  next : {h : History} {o : Asked} → Stretch P from h → P h o → Stretch P from (h then o)

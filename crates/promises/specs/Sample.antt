@@ -11,7 +11,7 @@ use Rattle.rules.specs.Memory.{ramBytes}
 use Rattle.rules.specs.Code.{flashWord, emptyRange, tableWords}
 use Rattle.rules.specs.State.{ramByte}
 use Rattle.rules.specs.Answers.{Given, numberOf, valueOf}
-use Rattle.rules.specs.Script.{operationOf}
+use Rattle.rules.specs.Operations.{lending, operationOf}
 
 abbrev pub range : ℕ → ℕ → Range
 range start end = record { start = flashWord start; end = flashWord end }
@@ -86,7 +86,7 @@ lineGiven g =
 abbrev pub linesGiven : List ℕ → State → List ℕ → List Operation → List Line
 linesGiven table s ram [] = []
 linesGiven table s ram (op ∷ ops) =
-    let g = operationOf s ram table op in lineGiven g ∷ linesGiven table (g .state) (g .ram) ops
+    let g = operationOf s ram (lending table) op in lineGiven g ∷ linesGiven table (g .state) (g .ram) ops
 
 -- the sample's lines
 abbrev pub sampleLines : List Line

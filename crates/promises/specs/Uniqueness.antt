@@ -19,16 +19,18 @@ use Rattle.rules.specs.declared.State.{State}
 use Rattle.rules.specs.declared.Frame.{Frame}
 use Rattle.rules.specs.declared.Found.{Found}
 use Rattle.rules.specs.declared.Answer.{Answer}
-use Rattle.rules.specs.Memory.{ramBytes, startOf, blockOf, blocksFor, isMultiple, mapBytesFor, codeOf, setCodes, startCode, laterCode, freeCode, ownerOf, startsSegment}
+use Rattle.rules.specs.Memory.{ramBytes, layoutOf, startOf, blockOf, blocksFor, isMultiple, mapBytesFor, codesOf, setCodes, startCode, laterCode, freeCode, ownerOf, startsSegment}
 use Rattle.rules.specs.Code.{tableWords, domainWords, flashWord}
 use Rattle.rules.specs.State.{ramByte, multiples, botBelowTop, mapBelowHeap, heapBelowSafe, safeBelowTop, topInRam, jtInFlash, rangesOrdered, rangesApart, goodConfig, domainGood, boundGood, safepointerGood, goodState}
 use Rattle.rules.specs.Answers.{numberOf, valueOf, Given, Gives}
 use Rattle.rules.specs.SetUp.{setUpRam, setUpOf}
-use Rattle.rules.specs.Store.{storeOf}
-use Rattle.rules.specs.Call.{low, high, frameBytes, callOf}
-use Rattle.rules.specs.Return.{readFrame, topFrame, returnOf}
-use Rattle.rules.specs.Malloc.{block, lowestRun, mallocOf}
-use Rattle.rules.specs.Free.{segmentBlocks, freeOf, changeOf}
+use Rattle.rules.specs.Bytes.{low, high}
+use Rattle.rules.specs.Store.{ownerAt}
+use Rattle.rules.specs.Call.{frameBytes}
+use Rattle.rules.specs.Return.{readFrame, topFrame}
+use Rattle.rules.specs.Malloc.{block, lowestRun}
+use Rattle.rules.specs.Free.{segmentBlocks}
+use Rattle.rules.specs.Operations.{storeOf, callOf, returnOf, mallocOf, freeOf, changeOf}
 use Rattle.rules.specs.Slot.{GivenToC, GivesToC, cSetUpOf, cStoreOf, cCallOf, cReturnOf, cMallocOf, cFreeOf, cChangeOf}
 
 -- no two results meet P; no two pairs, no two triples, of a result and what is left in the places that were lent
@@ -83,14 +85,14 @@ pub record Uniqueness : Type 1 where
   pub run : (printed : List ℕ → ℕ → List ℕ) (input out : List ℕ)
       → Only2 (λ r out′. (r ≡ length (printed input (length out))) × (out′ ≡ (printed input (length out)) ++ drop r out))
   -- crates/address
-  pub «whole_blocks» : (bot a : RamByte) → Only (λ r. r ≡ blockOf bot a)
-  pub «block_of» : (bot a : RamByte) → Only (λ r. r ≡ block (blockOf bot a))
-  pub «start_of» : (bot : RamByte) (k : Block) → Only (λ r. r ≡ ramByte (startOf bot (k .0)))
+  pub «whole_blocks» : (config : Config) (a : RamByte) → Only (λ r. r ≡ blockOf config a)
+  pub «block_of» : (config : Config) (a : RamByte) → Only (λ r. r ≡ block (blockOf config a))
+  pub «start_of» : (config : Config) (k : Block) → Only (λ r. r ≡ ramByte (startOf config (k .0)))
   pub further : (k : Block) (n : ℕ) → Only (λ r. r ≡ block (k .0 + n))
   pub before : (k : Block) (n : ℕ) → Only (λ r. r ≡ block (k .0 - n))
   pub «first_block» : Only (λ r. r ≡ block 0)
-  pub «is_multiple» : (a : RamByte) → Only (λ r. r ≡ isMultiple a)
-  pub «blocks_for» : (size : ℕ) → Only (λ r. r ≡ blocksFor size)
+  pub «is_multiple» : (config : Config) (a : RamByte) → Only (λ r. r ≡ isMultiple config a)
+  pub «blocks_for» : (config : Config) (size : ℕ) → Only (λ r. r ≡ blocksFor config size)
   pub above : (a : RamByte) (n : ℕ) → Only (λ r. r ≡ ramByte (a .0 + n))
   pub below : (a : RamByte) (n : ℕ) → Only (λ r. r ≡ ramByte (a .0 - n))
   pub «last_byte» : Only (λ r. r ≡ ramByte (ramBytes - 1))
@@ -100,7 +102,7 @@ pub record Uniqueness : Type 1 where
   pub «byte_of» : (low high : ℕ) → Only (λ r. r ≡ ramByte (low + 256 * high))
   pub «word_of» : (low high : ℕ) → Only (λ r. r ≡ flashWord (low + 256 * high))
   pub entry : (word : ℕ) → Only (λ r. r ≡ flashWord word)
-  pub «map_bytes_for» : (n : ℕ) → Only (λ r. r ≡ mapBytesFor n)
+  pub «map_bytes_for» : (config : Config) (n : ℕ) → Only (λ r. r ≡ mapBytesFor (layoutOf config) n)
   -- crates/frames
   pub low : (n : ℕ) → Only (λ r. r ≡ low n)
   pub high : (n : ℕ) → Only (λ r. r ≡ high n)
@@ -114,19 +116,19 @@ pub record Uniqueness : Type 1 where
   pub «good_run» : (state : State) → Only (λ r. r ≡ (domainGood state && boundGood state && safepointerGood state))
   pub «good_state» : (state : State) → Only (λ r. r ≡ goodState state)
   -- crates/map; `runOf` is where a search ended, by the first address of the run
-  pub «owner_of» : (code : ℕ) → Only (λ r. r ≡ ownerOf code)
-  pub «starts_segment» : (code : ℕ) → Only (λ r. r ≡ startsSegment code)
-  pub «start_code» : (domain : ℕ) → Only (λ r. r ≡ startCode domain)
-  pub «later_code» : (domain : ℕ) → Only (λ r. r ≡ laterCode domain)
-  pub «set_up_map» : (config : Config) (ram : List ℕ) → Only (λ ram′. ram′ ≡ setUpRam config ram)
-  pub «code_at» : (bot : RamByte) (ram : List ℕ) (a : RamByte) → Only (λ r. r ≡ codeOf bot ram (blockOf bot a))
-  pub «owner_at» : (bot : RamByte) (ram : List ℕ) (a : RamByte) → Only (λ r. r ≡ ownerOf (codeOf bot ram (blockOf bot a)))
-  pub «is_first» : (bot a : RamByte) → Only (λ r. r ≡ eqb (startOf bot (blockOf bot a)) (a .0))
+  pub «owner_of» : (config : Config) (code : ℕ) → Only (λ r. r ≡ ownerOf (layoutOf config) code)
+  pub «starts_segment» : (config : Config) (code : ℕ) → Only (λ r. r ≡ startsSegment (layoutOf config) code)
+  pub «start_code» : (config : Config) (domain : ℕ) → Only (λ r. r ≡ startCode (layoutOf config) domain)
+  pub «later_code» : (config : Config) (domain : ℕ) → Only (λ r. r ≡ laterCode (layoutOf config) domain)
+  pub «set_up_map» : (config : Config) (ram : List ℕ) → Only (λ ram′. ram′ ≡ setUpRam (layoutOf config) config ram)
+  pub «code_at» : (config : Config) (ram : List ℕ) (a : RamByte) → Only (λ r. r ≡ codesOf config ram (blockOf config a))
+  pub «owner_at» : (config : Config) (ram : List ℕ) (a : RamByte) → Only (λ r. r ≡ ownerAt config (codesOf config ram) a)
+  pub «is_first» : (config : Config) (a : RamByte) → Only (λ r. r ≡ eqb (startOf config (blockOf config a)) (a .0))
   pub «segment_blocks» : (config : Config) (ram : List ℕ) (a : RamByte) (domain : ℕ)
-      → Only (λ r. r ≡ segmentBlocks config ram (blockOf (config .bot) a))
-  pub «set_run» : (bot : RamByte) (ram : List ℕ) (a : RamByte) (n first later : ℕ)
-      → Only (λ ram′. ram′ ≡ setCodes bot ram (blockOf bot a) (first ∷ replicate (n - 1) later))
-  pub «set_free» : (bot : RamByte) (ram : List ℕ) (a : RamByte) (n : ℕ)
-      → Only (λ ram′. ram′ ≡ setCodes bot ram (blockOf bot a) (replicate n freeCode))
-  pub «lowest_run» : (Run : Type 0) (runOf : RamByte → Found → Run) (config : Config) (ram : List ℕ) (n : ℕ)
-      → Only (λ r. r ≡ runOf (config .bot) (lowestRun config ram n))
+      → Only (λ r. r ≡ segmentBlocks config (codesOf config ram) (blockOf config a))
+  pub «set_run» : (config : Config) (ram : List ℕ) (a : RamByte) (n first later : ℕ)
+      → Only (λ ram′. ram′ ≡ setCodes (layoutOf config) ram (blockOf config a) (first ∷ replicate (n - 1) later))
+  pub «set_free» : (config : Config) (ram : List ℕ) (a : RamByte) (n : ℕ)
+      → Only (λ ram′. ram′ ≡ setCodes (layoutOf config) ram (blockOf config a) (replicate n (freeCode (layoutOf config))))
+  pub «lowest_run» : (Run : Type 0) (runOf : Config → Found → Run) (config : Config) (ram : List ℕ) (n : ℕ)
+      → Only (λ r. r ≡ runOf config (lowestRun config (codesOf config ram) n))
