@@ -65,7 +65,7 @@ pub fn store(state: State, ram: &mut [u8], address: RamByte, byte: u8) -> Outcom
 
 // A call is handed what it looks at: the code ranges of the current domain and of the called one, and the word of its target; a local call,
 // or one past the tables, looks at the first alone. A frame is written to the safe stack area, which is lent to the frame writer, and to no
-// other byte.
+// other byte. A refusal is made anew: to hand on the answer that was matched on costs more.
 pub fn call_with(
     state: State,
     ram: &mut [u8],
@@ -93,14 +93,12 @@ pub fn call_with(
                 return Outcome { answer, state };
             }
             let bound = state.bound;
-            let frame = Frame::Cross(site, bound, state.domain);
-            frames::push(&mut ram[safe..top], used, frame);
+            frames::push(&mut ram[safe..top], used, Frame::Cross(site, bound, state.domain));
             state.domain = call_check::called_domain(config, target);
             state.bound = pointer;
             state.safepointer = address::above(state.safepointer, frames::CROSS_BYTES);
             return Outcome { answer, state };
         }
-        // made anew: to hand on the answer that was matched on costs more
         Answer::Refused(refusal) => return Outcome {
             answer: Answer::Refused(refusal),
             state,
