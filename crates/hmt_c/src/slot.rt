@@ -55,6 +55,10 @@ const FIRST: usize = CONFIG + RANGES;
 
 const TRUSTED: usize = FIRST + 7 * RANGE_BYTES;
 
+const TRUSTED_END: usize = TRUSTED + 2;
+
+const JT_PLACE: usize = CONFIG + JT;
+
 // Code as it usually lies (see good::ranges::all_good), seen in the slot itself: modules rising, the trusted code before or after them.
 fn rising(slot: &[u8]) -> bool
     requires { ⌜ length (now slot) ≡ slotBytes ⌝ }
@@ -77,17 +81,17 @@ fn rising(slot: &[u8]) -> bool
         at += 4;
     }
     let start = word_at(slot, TRUSTED);
-    let end = word_at(slot, TRUSTED + 2);
+    let end = word_at(slot, TRUSTED_END);
     if end < start {
         return false;
     }
     if last <= start {
-        return end <= word_at(slot, CONFIG + JT);
+        return end <= word_at(slot, JT_PLACE);
     }
     if first < end {
         return false;
     }
-    last <= word_at(slot, CONFIG + JT)
+    last <= word_at(slot, JT_PLACE)
 }
 
 // Whether the configuration in the slot is good: the test of all pairs is left to code in another order.

@@ -2,6 +2,7 @@
 -- Assumes nothing.
 use Prim.Native.Nat.{ℕ, _+_, _-_, _<_, _≤_}
 use mathlib.Core.Path.{_≡_, _∙_}
+use mathlib.Core.Bool.{true}
 use mathlib.Core.List.{List}
 use native.Mathlib.Omega.{arith}
 use lib.ListN.{length}
@@ -13,24 +14,29 @@ use Rattle.rules.specs.declared.FlashWord.{FlashWord}
 use Rattle.rules.specs.declared.State.{State}
 use Rattle.rules.specs.declared.Frame.{Frame}
 use Rattle.rules.specs.declared.Frame.the-variants.{Local, Cross}
+use Rattle.rules.specs.declared.Operation.the-variants.{Call}
 use Rattle.rules.specs.declared.Answer.{Answer}
 use Rattle.rules.specs.declared.Answer.the-variants.{Done}
+use Rattle.rules.specs.Memory.{ramBytes}
 use Rattle.rules.specs.Code.{tableWords, tableWord, calledDomain}
-use Rattle.rules.specs.State.{ramByte}
+use Rattle.rules.specs.State.{goodState, ramByte, running}
 use Rattle.rules.specs.Answers.{Gives}
-use Rattle.rules.specs.Call.{frameBytes, frameOf, called, callAnswer, callOf}
-use Rattle.laws.proofs.Answers.{gives-done}
+use Rattle.rules.specs.Call.{frameBytes, callRows}
+use Rattle.rules.specs.Operations.{lending, callOf}
 use Rattle.laws.proofs.Parts.{put-sets}
+use Rattle.operations.specs.CallRows.{tableOf}
+use Rattle.operations.proofs.Gives.{done}
 use Rattle.operations.proofs.SafeStack.{Area, lent}
-use Rattle.operations.proofs.CallRows.{CallDone}
+use Rattle.operations.proofs.CallRows.{CallDone, tableOf-lent}
 
 -- ---- the frame
 
 -- a frame written to the part is the frame written to RAM
-pub pushed : (s : State) (ram : List ℕ) → Area s ram → (f : Frame) (last : List ℕ) → s .safepointer .0 + length (frameBytes f) ≤ s .config .top .0
+pub put-frame : (s : State) (ram : List ℕ) → Area s ram → (f : Frame) (last : List ℕ)
+    → s .safepointer .0 + length (frameBytes f) ≤ s .config .top .0
     → last ≡ sets (lent s ram) (s .safepointer .0 - s .config .safe .0) (frameBytes f)
     → putMid (s .config .safe .0) (s .config .top .0 - s .config .safe .0) ram last ≡ sets ram (s .safepointer .0) (frameBytes f)
-pushed s ram a f last fits e =
+put-frame s ram a f last fits e =
     let i : s .config .safe .0 + (s .safepointer .0 - s .config .safe .0) ≡ s .safepointer .0 = omega arith in
     rw e
     (put-sets (s .config .safe .0) (s .config .top .0 - s .config .safe .0) ram (s .safepointer .0 - s .config .safe .0) (frameBytes f) (omega arith)
@@ -38,31 +44,25 @@ pushed s ram a f last fits e =
 
 -- ---- what is handed back
 
-module _ (s : State) (ram table : List ℕ) (t site : FlashWord) (p : RamByte) (answer : Answer) (v : ℕ)
-    (right : answer ≡ callAnswer s ram table t site p) (done : answer ≡ Done v) where
-  gives : (next : State) (ram′ : List ℕ) → next ≡ called s t site p → ram′ ≡ sets ram (s .safepointer .0) (frameBytes (frameOf s t site))
-      → Gives (record { answer = answer; state = next }) ram′ (callOf s ram table t site p)
-  gives next ram′ e f =
-      rw (e, f)
-      (gives-done answer (callAnswer s ram table t site p) s (called s t site p) ram (sets ram (s .safepointer .0) (frameBytes (frameOf s t site))) right v done)
-
-  pub gives-local : t .0 < s .config .jt .0 → (pointer : RamByte) (ram′ : List ℕ) → pointer ≡ ramByte (s .safepointer .0 + 3)
+module _ (s : State) (ram : List ℕ) (word : ℕ) (t site : FlashWord) (p : RamByte) (ready : (length ram ≡ ramBytes) × (goodState s ≡ true))
+    (answer : Answer) (right : answer ≡ callRows s (tableOf word) t site p) (v : ℕ) (told : answer ≡ Done v) (pointer : RamByte) (ram′ : List ℕ) where
+  pub gives-local : t .0 < s .config .jt .0 → pointer ≡ ramByte (s .safepointer .0 + 3)
       → ram′ ≡ sets ram (s .safepointer .0) (frameBytes (Local site))
-      → Gives (record { answer = answer; state = record { config = s .config; domain = s .domain; bound = s .bound; safepointer = pointer } }) ram′
-      (callOf s ram table t site p)
-  gives-local h pointer ram′ e f = gives _ ram′ (rw (lt-ltb (t .0) (s .config .jt .0) h, e)) (f ∙ (rw (lt-ltb (t .0) (s .config .jt .0) h)))
+      → Gives (record { answer = answer; state = running s (s .domain) (s .bound) pointer }) ram′ (callOf s ram (tableOf word) t site p)
+  gives-local h e f =
+      done s ram (lending (tableOf word)) (Call t site p) (tableOf-lent word t site p) ready answer right v told _ ram′
+      (rw (lt-ltb (t .0) (s .config .jt .0) h, e)) (f ∙ (rw (lt-ltb (t .0) (s .config .jt .0) h)))
 
-  pub gives-cross : s .config .jt .0 ≤ t .0 → (domain : ℕ) (pointer : RamByte) (ram′ : List ℕ) → domain ≡ calledDomain (s .config) t
-      → pointer ≡ ramByte (s .safepointer .0 + 5)
+  pub gives-cross : s .config .jt .0 ≤ t .0 → (domain : ℕ) → domain ≡ calledDomain (s .config) t → pointer ≡ ramByte (s .safepointer .0 + 5)
       → ram′ ≡ sets ram (s .safepointer .0) (frameBytes (Cross site (s .bound) (s .domain)))
-      → Gives (record { answer = answer; state = record { config = s .config; domain = domain; bound = p; safepointer = pointer } }) ram′
-      (callOf s ram table t site p)
-  gives-cross h domain pointer ram′ d e f =
-      gives _ ram′ (rw (le-ltb (t .0) (s .config .jt .0) h, d, e)) (f ∙ (rw (le-ltb (t .0) (s .config .jt .0) h)))
+      → Gives (record { answer = answer; state = running s domain p pointer }) ram′ (callOf s ram (tableOf word) t site p)
+  gives-cross h domain d e f =
+      done s ram (lending (tableOf word)) (Call t site p) (tableOf-lent word t site p) ready answer right v told _ ram′
+      (rw (le-ltb (t .0) (s .config .jt .0) h, d, e)) (f ∙ (rw (le-ltb (t .0) (s .config .jt .0) h)))
 
 -- ---- room for the frame, and the word within the tables
 
-module _ (s : State) (ram : List ℕ) (t site : FlashWord) (d : CallDone s ram t site) where
+module _ (s : State) (t site : FlashWord) (d : CallDone s t site) where
   pub local-fits : t .0 < s .config .jt .0 → s .safepointer .0 + length (frameBytes (Local site)) ≤ s .config .top .0
   local-fits h = rw (lt-ltb (t .0) (s .config .jt .0) h) at (d .fits)
 

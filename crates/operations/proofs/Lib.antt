@@ -1,6 +1,6 @@
--- What several proofs of this crate cite: the rows of each table as the code passes them, and what is handed back.
+-- What several proofs of this crate cite: what an operation gives by its own rows, and for each what its check found and what it then does.
+pub mod Gives
 pub mod Acts
-pub mod StoreRows
 pub mod SafeStack
 pub mod CallRows
 pub mod Calls

@@ -2,11 +2,9 @@
 ghost use mathlib.Core.Path.{_≡_};
 ghost use mathlib.Core.Bool.{true};
 ghost use Prim.Native.Nat.{_≤_, _<_};
-ghost use lib.ListN.{length};
-ghost use Rattle.rules.specs.Memory.{ramBytes};
 ghost use Rattle.rules.specs.Code.{tableWords, rangeOf, tableWord, calledDomain};
 ghost use Rattle.rules.specs.State.{goodState};
-ghost use Rattle.rules.specs.Call.{callAnswer};
+ghost use Rattle.rules.specs.Call.{callRows};
 ghost use Rattle.operations.specs.CallRows.{tableOf, CalledCode, localRows, crossRows};
 use crate::code_ranges::in_range;
 use crate::looked_at::TABLE_WORDS;
@@ -78,7 +76,6 @@ fn cross_answer(
 
 pub fn answer(
     state: State,
-    ram: &[u8],
     code: Range,
     called: Range,
     word: u16,
@@ -86,8 +83,8 @@ pub fn answer(
     site: FlashWord,
     pointer: RamByte,
 ) -> Answer
-    requires { ⌜ (length (now ram) ≡ ramBytes) × (goodState state ≡ true) × (code ≡ rangeOf (state .config) (state .domain)) × CalledCode state target called ⌝ }
-    ensures { λ r. ⌜ r ≡ callAnswer state (now (ram .entry)) (tableOf word) target site pointer ⌝ }
+    requires { ⌜ (goodState state ≡ true) × (code ≡ rangeOf (state .config) (state .domain)) × CalledCode state target called ⌝ }
+    ensures { λ r. ⌜ r ≡ callRows state (tableOf word) target site pointer ⌝ }
 {
     let config = state.config;
     if !in_range(code, site) {

@@ -2,20 +2,17 @@
 // return below 13. The runtime and the layer for C make those tests, each on the state as it comes to them.
 ghost use mathlib.Core.Path.{_≡_};
 ghost use mathlib.Core.Bool.{true};
-ghost use Prim.Native.Nat.{_<_};
+ghost use Prim.Native.Nat.{_≤_, _<_};
 ghost use lib.ListN.{length};
 ghost use Rattle.rules.specs.Memory.{ramBytes};
 ghost use Rattle.rules.specs.State.{goodConfig, goodState};
 ghost use Rattle.rules.specs.Code.{rangeOf};
 ghost use Rattle.rules.specs.Answers.{Gives};
 ghost use Rattle.rules.specs.SetUp.{setUpOf};
-ghost use Rattle.rules.specs.Store.{storeOf};
-ghost use Rattle.rules.specs.Call.{callOf};
-ghost use Rattle.rules.specs.Return.{topFrame, returnOf};
-ghost use Rattle.rules.specs.Malloc.{mallocOf};
-ghost use Rattle.rules.specs.Free.{freeOf, changeOf};
+ghost use Rattle.rules.specs.Call.{frameBytes};
+ghost use Rattle.rules.specs.Operations.{storeOf, callOf, mallocOf, freeOf, changeOf};
 ghost use Rattle.operations.specs.CallRows.{tableOf, CalledCode};
-ghost use Rattle.operations.specs.ReturnRows.{callerOf};
+ghost use Rattle.operations.specs.ReturnRows.{callerOf, returning};
 
 mod call_check;
 mod code_ranges;
@@ -26,6 +23,7 @@ mod segment_check;
 mod states;
 mod store_check;
 
+use address::domains::is_module;
 use malloc_check::Place;
 use map::by_address;
 use rules::Answer;
@@ -81,7 +79,7 @@ pub fn call_with(
     requires { ⌜ (length (now ram) ≡ ramBytes) × (goodState state ≡ true) × (code ≡ rangeOf (state .config) (state .domain)) × CalledCode state target called ⌝ }
     ensures { λ r. ⌜ Gives r (now (ram .exit)) (callOf state (now (ram .entry)) (tableOf word) target site pointer) ⌝ }
 {
-    let answer = call_check::answer(state, ram, code, called, word, target, site, pointer);
+    let answer = call_check::answer(state, code, called, word, target, site, pointer);
     match answer {
         Answer::Done(_) => {
             let config = state.config;
@@ -110,10 +108,10 @@ pub fn call_with(
     }
 }
 
-// A return is handed the frame below the safe pointer and the code range of the domain that it returns to. The frame's bytes stay in RAM.
-pub fn ret_with(state: State, ram: &[u8], frame: Frame, code: Range) -> Outcome
-    requires { ⌜ (length (now ram) ≡ ramBytes) × (goodState state ≡ true) × (state .config .safe .0 < state .safepointer .0) × (frame ≡ topFrame state (now ram)) × (code ≡ rangeOf (state .config) (callerOf state frame)) ⌝ }
-    ensures { λ r. ⌜ Gives r (now (ram .entry)) (returnOf state (now (ram .entry))) ⌝ }
+// A return is handed the frame below the safe pointer and the code range of the domain that it returns to, and no byte of RAM.
+pub fn ret_with(state: State, frame: Frame, code: Range) -> Outcome
+    requires { ⌜ (state .config .safe .0 < state .safepointer .0) × (length (frameBytes frame) ≤ state .safepointer .0) × (code ≡ rangeOf (state .config) (callerOf state frame)) ⌝ }
+    ensures { λ r. ⌜ r ≡ returning state frame ⌝ }
 {
     let found = return_check::judged(state, frame, code);
     let mut next = state;
@@ -151,10 +149,10 @@ pub fn malloc(state: State, ram: &mut [u8], size: u16) -> Outcome
     match place {
         Place::At(start) => {
             let config = state.config;
-            let n = address::blocks_for(size);
-            let first = map::start_code(state.domain);
-            let later = map::later_code(state.domain);
-            by_address::set_run(config.bot, ram, start, n, first, later);
+            let n = address::blocks_for(config, size);
+            let first = map::start_code(config, state.domain);
+            let later = map::later_code(config, state.domain);
+            by_address::set_run(config, ram, start, n, first, later);
             Outcome {
                 answer: Answer::Done(start.0),
                 state,
@@ -176,7 +174,7 @@ pub fn free(state: State, ram: &mut [u8], address: RamByte) -> Outcome
         Answer::Done(_) => {
             let config = state.config;
             let freed = by_address::segment_blocks(config, ram, address, state.domain);
-            by_address::set_free(config.bot, ram, address, freed);
+            by_address::set_free(config, ram, address, freed);
             Outcome {
                 answer: Answer::Done(freed),
                 state,
@@ -193,17 +191,17 @@ pub fn change(state: State, ram: &mut [u8], address: RamByte, domain: u8) -> Out
     let answer = segment_check::segment_at(state, ram, address);
     match answer {
         Answer::Done(_) => {
-            if map::TRUSTED <= domain {
+            let config = state.config;
+            if !is_module(config, domain) {
                 return Outcome {
                     answer: Answer::Refused(Refusal::DomainAbove),
                     state,
                 };
             }
-            let config = state.config;
             let changed = by_address::segment_blocks(config, ram, address, state.domain);
-            let first = map::start_code(domain);
-            let later = map::later_code(domain);
-            by_address::set_run(config.bot, ram, address, changed, first, later);
+            let first = map::start_code(config, domain);
+            let later = map::later_code(config, domain);
+            by_address::set_run(config, ram, address, changed, first, later);
             Outcome {
                 answer: Answer::Done(changed),
                 state,

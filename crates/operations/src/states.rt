@@ -1,6 +1,7 @@
 // The state that a set-up that is done hands back.
 ghost use mathlib.Core.Path.{_≡_};
 ghost use Rattle.rules.specs.State.{fresh};
+use address::domains::TRUSTED;
 use rules::Config;
 use rules::State;
 
@@ -10,7 +11,7 @@ pub fn fresh(config: Config) -> State
     let safepointer = config.safe;
     State {
         config,
-        domain: map::TRUSTED,
+        domain: TRUSTED,
         bound: address::last_byte(),
         safepointer,
     }

@@ -2,9 +2,10 @@
 ghost use mathlib.Core.Path.{_≡_};
 ghost use mathlib.Core.Bool.{true};
 ghost use lib.ListN.{length};
-ghost use Rattle.rules.specs.Memory.{ramBytes};
+ghost use Rattle.rules.specs.Memory.{ramBytes, codesOf};
 ghost use Rattle.rules.specs.State.{goodState};
-ghost use Rattle.rules.specs.Store.{storeAnswer};
+ghost use Rattle.rules.specs.Store.{storeRows};
+use address::domains::TRUSTED;
 use rules::Answer;
 use rules::RamByte;
 use rules::Refusal;
@@ -12,12 +13,12 @@ use rules::State;
 
 pub fn answer(state: State, ram: &[u8], address: RamByte) -> Answer
     requires { ⌜ (length (now ram) ≡ ramBytes) × (goodState state ≡ true) ⌝ }
-    ensures { λ r. ⌜ r ≡ storeAnswer state (now (ram .entry)) address ⌝ }
+    ensures { λ r. ⌜ r ≡ storeRows state (codesOf (state .config) (now (ram .entry))) address ⌝ }
 {
     if address::RAM_BYTES <= address.0 {
         return Answer::Refused(Refusal::PastRam);
     }
-    if state.domain == map::TRUSTED {
+    if state.domain == TRUSTED {
         return Answer::Done(0);
     }
     let config = state.config;
@@ -30,7 +31,7 @@ pub fn answer(state: State, ram: &[u8], address: RamByte) -> Answer
         }
         return Answer::Done(0);
     }
-    let owner = map::by_address::owner_at(config.bot, ram, address);
+    let owner = map::by_address::owner_at(config, ram, address);
     if owner != state.domain {
         return Answer::Refused(Refusal::OtherOwner);
     }

@@ -1,13 +1,13 @@
 // Set-up and the six operations of document 01. Each gives what its rule gives, refusals included.
 ghost use mathlib.Core.Path.{_≡_};
+ghost use mathlib.Core.Bool.{true};
+ghost use lib.ListN.{length};
+ghost use Rattle.rules.specs.Memory.{ramBytes};
+ghost use Rattle.rules.specs.Code.{tableWords};
+ghost use Rattle.rules.specs.State.{goodState};
 ghost use Rattle.rules.specs.Answers.{Gives};
-ghost use Rattle.runtime.specs.FirstRows.{firstRows};
 ghost use Rattle.rules.specs.SetUp.{setUpOf};
-ghost use Rattle.rules.specs.Store.{storeOf};
-ghost use Rattle.rules.specs.Call.{callOf};
-ghost use Rattle.rules.specs.Return.{returnOf};
-ghost use Rattle.rules.specs.Malloc.{mallocOf};
-ghost use Rattle.rules.specs.Free.{freeOf, changeOf};
+ghost use Rattle.rules.specs.Operations.{lending, wrongLent, operationOf, storeOf, callOf, returnOf, mallocOf, freeOf, changeOf};
 
 pub mod numbers;
 mod states;
@@ -19,6 +19,7 @@ use operations::looked_at::top_frame;
 use rules::Answer;
 use rules::Config;
 use rules::FlashWord;
+use rules::Operation;
 use rules::Outcome;
 use rules::RamByte;
 use rules::Refusal;
@@ -48,31 +49,94 @@ pub fn set_up(config: Config, ram: &mut [u8]) -> Outcome
     operations::set_up(config, ram)
 }
 
-// The two rows that each operation's table begins with; done where neither holds.
-fn first_rows(state: State, ram: &[u8]) -> Answer
-    ensures { λ r. ⌜ r ≡ firstRows state (now (ram .entry)) ⌝ }
+// Section 5: what a call looks at beside the state, and the call.
+fn call_in(
+    state: State,
+    ram: &mut [u8],
+    table: &[u16],
+    target: FlashWord,
+    site: FlashWord,
+    pointer: RamByte,
+) -> Outcome
+    requires { ⌜ (length (now ram) ≡ ramBytes) × (goodState state ≡ true) × (length (now table) ≡ tableWords) ⌝ }
+    ensures { λ r. ⌜ Gives r (now (ram .exit)) (callOf state (now (ram .entry)) (now (table .entry)) target site pointer) ⌝ }
 {
-    if ram.len() != RAM_BYTES {
-        return Answer::Refused(Refusal::WrongSize);
-    }
-    if !good::good_state(state) {
-        return Answer::Refused(Refusal::BadState);
-    }
-    Answer::Done(0)
+    let config = state.config;
+    let at = table_word(config.jt, target);
+    let code = config.ranges[state.domain as usize];
+    let called = config.ranges[domain_of(at) as usize];
+    let word = table[at as usize];
+    operations::call_with(state, ram, code, called, word, target, site, pointer)
 }
 
-// Section 5: the six operations.
+// What a return looks at, and the return. It leaves RAM as it is.
+fn ret_in(state: State, ram: &[u8]) -> Outcome
+    requires { ⌜ (length (now ram) ≡ ramBytes) × (goodState state ≡ true) ⌝ }
+    ensures { λ r. ⌜ Gives r (now (ram .entry)) (returnOf state (now (ram .entry))) ⌝ }
+{
+    let config = state.config;
+    if state.safepointer.0 == config.safe.0 {
+        return Outcome {
+            answer: Answer::Refused(Refusal::NoFrame),
+            state,
+        };
+    }
+    let frame = top_frame(state, ram);
+    let code = config.ranges[caller(state, frame) as usize];
+    operations::ret_with(state, frame, code)
+}
+
+// Whether what an operation is lent beside RAM has another length than it must.
+fn wrong_lent(table: &[u16], op: Operation) -> bool
+    ensures { λ r. ⌜ r ≡ wrongLent (lending (now (table .entry))) op ⌝ }
+{
+    match op {
+        Operation::Store(_, _) => false,
+        Operation::Call(_, _, _) => table.len() != TABLE_WORDS,
+        Operation::Return => false,
+        Operation::Malloc(_) => false,
+        Operation::Free(_) => false,
+        Operation::Change(_, _) => false,
+    }
+}
+
+// Any operation: the two rows that every table begins with, then its own. Only a call looks at the table.
+pub fn operate(state: State, ram: &mut [u8], table: &[u16], op: Operation) -> Outcome
+    ensures { λ r. ⌜ Gives r (now (ram .exit)) (operationOf state (now (ram .entry)) (lending (now (table .entry))) op) ⌝ }
+{
+    if wrong_lent(table, op) {
+        return Outcome {
+            answer: Answer::Refused(Refusal::WrongSize),
+            state,
+        };
+    }
+    if ram.len() != RAM_BYTES {
+        return Outcome {
+            answer: Answer::Refused(Refusal::WrongSize),
+            state,
+        };
+    }
+    if !good::good_state(state) {
+        return Outcome {
+            answer: Answer::Refused(Refusal::BadState),
+            state,
+        };
+    }
+    match op {
+        Operation::Store(address, byte) => operations::store(state, ram, address, byte),
+        Operation::Call(target, site, pointer) => call_in(state, ram, table, target, site, pointer),
+        Operation::Return => ret_in(state, ram),
+        Operation::Malloc(size) => operations::malloc(state, ram, size),
+        Operation::Free(address) => operations::free(state, ram, address),
+        Operation::Change(address, domain) => operations::change(state, ram, address, domain),
+    }
+}
+
+// Each operation by itself.
 pub fn store(state: State, ram: &mut [u8], address: RamByte, byte: u8) -> Outcome
     ensures { λ r. ⌜ Gives r (now (ram .exit)) (storeOf state (now (ram .entry)) address byte) ⌝ }
 {
-    let first = first_rows(state, ram);
-    let Answer::Done(_) = first else {
-        return Outcome {
-            answer: first,
-            state,
-        };
-    };
-    operations::store(state, ram, address, byte)
+    operate(state, ram, &[], Operation::Store(address, byte))
 }
 
 pub fn call(
@@ -85,84 +149,29 @@ pub fn call(
 ) -> Outcome
     ensures { λ r. ⌜ Gives r (now (ram .exit)) (callOf state (now (ram .entry)) (now (table .entry)) target site pointer) ⌝ }
 {
-    if table.len() != TABLE_WORDS {
-        return Outcome {
-            answer: Answer::Refused(Refusal::WrongSize),
-            state,
-        };
-    }
-    let first = first_rows(state, ram);
-    let Answer::Done(_) = first else {
-        return Outcome {
-            answer: first,
-            state,
-        };
-    };
-    let config = state.config;
-    let at = table_word(config.jt, target);
-    let code = config.ranges[state.domain as usize];
-    let called = config.ranges[domain_of(at) as usize];
-    let word = table[at as usize];
-    operations::call_with(state, ram, code, called, word, target, site, pointer)
+    operate(state, ram, table, Operation::Call(target, site, pointer))
 }
 
 pub fn ret(state: State, ram: &mut [u8]) -> Outcome
     ensures { λ r. ⌜ Gives r (now (ram .exit)) (returnOf state (now (ram .entry))) ⌝ }
 {
-    let first = first_rows(state, ram);
-    let Answer::Done(_) = first else {
-        return Outcome {
-            answer: first,
-            state,
-        };
-    };
-    let config = state.config;
-    if state.safepointer.0 == config.safe.0 {
-        return Outcome {
-            answer: Answer::Refused(Refusal::NoFrame),
-            state,
-        };
-    }
-    let frame = top_frame(state, ram);
-    let code = config.ranges[caller(state, frame) as usize];
-    operations::ret_with(state, ram, frame, code)
+    operate(state, ram, &[], Operation::Return)
 }
 
 pub fn malloc(state: State, ram: &mut [u8], size: u16) -> Outcome
     ensures { λ r. ⌜ Gives r (now (ram .exit)) (mallocOf state (now (ram .entry)) size) ⌝ }
 {
-    let first = first_rows(state, ram);
-    let Answer::Done(_) = first else {
-        return Outcome {
-            answer: first,
-            state,
-        };
-    };
-    operations::malloc(state, ram, size)
+    operate(state, ram, &[], Operation::Malloc(size))
 }
 
 pub fn free(state: State, ram: &mut [u8], address: RamByte) -> Outcome
     ensures { λ r. ⌜ Gives r (now (ram .exit)) (freeOf state (now (ram .entry)) address) ⌝ }
 {
-    let first = first_rows(state, ram);
-    let Answer::Done(_) = first else {
-        return Outcome {
-            answer: first,
-            state,
-        };
-    };
-    operations::free(state, ram, address)
+    operate(state, ram, &[], Operation::Free(address))
 }
 
 pub fn change(state: State, ram: &mut [u8], address: RamByte, domain: u8) -> Outcome
     ensures { λ r. ⌜ Gives r (now (ram .exit)) (changeOf state (now (ram .entry)) address domain) ⌝ }
 {
-    let first = first_rows(state, ram);
-    let Answer::Done(_) = first else {
-        return Outcome {
-            answer: first,
-            state,
-        };
-    };
-    operations::change(state, ram, address, domain)
+    operate(state, ram, &[], Operation::Change(address, domain))
 }

@@ -17,8 +17,8 @@ returns : tie.Need-returns
 returns c =
     not-run (stateIn (c .before .before .before .before .args .slot .now)) (failed (rw (c .before .before .state-in .ensures) at (c .before .good-run .ensures)) (c .if1 .taken))
 
-config-in-requires : tie.Need-config-in-requires
-config-in-requires c κs = search needs
+config-at-requires : tie.Need-config-at-requires
+config-at-requires c κs = search needs
 
 good-bounds-requires : tie.Need-good-bounds-requires
 good-bounds-requires c κs = search needs
@@ -26,11 +26,11 @@ good-bounds-requires c κs = search needs
 returns-2 : tie.Need-returns-2
 returns-2 c =
     let slot = c .before .before .before .before .before .before .before .args .slot .now in
-    not-bounds (configIn slot) (failed (rw (c .before .before .config-in .ensures) at (c .before .good-bounds .ensures)) (c .if2 .taken))
+    not-bounds (configIn slot) (failed (rw (c .before .before .config-at .ensures) at (c .before .good-bounds .ensures)) (c .if2 .taken))
     ∙ config-decides (stateIn slot) (passed (rw (c .before .before .before .before .before .state-in .ensures) at (c .before .before .before .before .good-run .ensures)) (c .before .before .before .if1 .left))
 
-config-in-requires-2 : tie.Need-config-in-requires-2
-config-in-requires-2 c κs = search needs
+config-at-requires-2 : tie.Need-config-at-requires-2
+config-at-requires-2 c κs = search needs
 
 good-ranges-requires : tie.Need-good-ranges-requires
 good-ranges-requires c κs = search needs
@@ -38,8 +38,8 @@ good-ranges-requires c κs = search needs
 returns-3 : tie.Need-returns-3
 returns-3 c =
     let slot = c .before .before .before .before .before .before .before .before .before .args .slot .now in
-    (rw (c .before .config-in2 .ensures) at (c .good-ranges .ensures))
-    ∙ ranges-decide (configIn slot) (passed (rw (c .before .before .before .before .config-in .ensures) at (c .before .before .before .good-bounds .ensures)) (c .before .before .if2 .left))
+    (rw (c .before .config-at2 .ensures) at (c .good-ranges .ensures))
+    ∙ ranges-decide (configIn slot) (passed (rw (c .before .before .before .before .config-at .ensures) at (c .before .before .before .good-bounds .ensures)) (c .before .before .if2 .left))
     ∙ config-decides (stateIn slot) (passed (rw (c .before .before .before .before .before .before .before .state-in .ensures) at (c .before .before .before .before .before .before .good-run .ensures)) (c .before .before .before .before .before .if1 .left))
 
 pub good-state-spec : {M : Type 1} → statement M
@@ -49,9 +49,9 @@ good-state-spec =
     state-in-requires
     good-run-requires
     returns
-    config-in-requires
+    config-at-requires
     good-bounds-requires
     returns-2
-    config-in-requires-2
+    config-at-requires-2
     good-ranges-requires
     returns-3)

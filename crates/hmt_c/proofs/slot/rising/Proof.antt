@@ -8,23 +8,22 @@ use native.Mathlib.Omega.{arith}
 use borrow.Author.Needs.{needs}
 use borrow.Author.Tests.{leb-true}
 use Rattle.rules.specs.declared.Range.{Range}
-use Rattle.rules.specs.Code.{domains, flashWord}
+use Rattle.rules.specs.Code.{domains}
 use Rattle.rules.specs.State.{rangesOrdered, rangesApart}
-use Rattle.rules.specs.Return.{wordAt}
-use Rattle.rules.specs.Script.{rangesAt}
-use Rattle.rules.specs.Slot.{boundIn, configIn}
+use Rattle.rules.specs.Bytes.{rangeAt, rangesAt}
+use Rattle.rules.specs.Slot.{runPart, configIn}
 use Rattle.good.proofs.Rising.{Rises, after, before, next, empty, rises-good}
 use Rattle.hmt_c.proofs.slot.rising.Statement.{statement}
 use Rattle.hmt_c.proofs.slot.rising.Tie as tie
 
 abbrev trusted-code : List ℕ → Range
-trusted-code slot = record { start = flashWord (wordAt slot 38); end = flashWord (wordAt slot 40) }
+trusted-code slot = rangeAt slot 38
 
 abbrev Inv-loop : tie.InvT-loop
 Inv-loop slot first last₀ at₀ last at =
     (at ≤ 38)
     × (at % 4 ≡ 2)
-    × ((n : ℕ) → at + 4 * n ≡ boundIn → Rises (configIn slot .jt) first last (rangesAt slot at n) → (rangesOrdered (configIn slot) && rangesApart (configIn slot)) ≡ true)
+    × ((n : ℕ) → at + 4 * n ≡ runPart → Rises (configIn slot .jt) first last (rangesAt slot at n) → (rangesOrdered (configIn slot) && rangesApart (configIn slot)) ≡ true)
 
 abbrev μ-loop : tie.MeasureT-loop
 μ-loop slot first last₀ at₀ last at = 38 - at

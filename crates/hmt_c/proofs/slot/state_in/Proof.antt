@@ -3,8 +3,8 @@ use borrow.Author.Needs.{needs}
 use Rattle.hmt_c.proofs.slot.state_in.Statement.{statement}
 use Rattle.hmt_c.proofs.slot.state_in.Tie as tie
 
-config-in-requires : tie.Need-config-in-requires
-config-in-requires c κs = search needs
+config-at-requires : tie.Need-config-at-requires
+config-at-requires c κs = search needs
 
 ram-byte-at-requires : tie.Need-ram-byte-at-requires
 ram-byte-at-requires c κs = search needs
@@ -16,13 +16,13 @@ shared-slice-read-t6 : tie.Need-shared-slice-read-t6
 shared-slice-read-t6 c = search needs
 
 returns : tie.Need-returns
-returns c = rw (c .before .before .before .config-in .ensures, c .before .before .ram-byte-at .ensures, c .before .ram-byte-at2 .ensures)
+returns c = rw (c .before .before .before .config-at .ensures, c .before .before .ram-byte-at .ensures, c .before .ram-byte-at2 .ensures)
 
 pub state-in-spec : {M : Type 1} → statement M
 state-in-spec =
     tie.close
     (tie.spec
-    config-in-requires
+    config-at-requires
     ram-byte-at-requires
     ram-byte-at-requires-2
     shared-slice-read-t6

@@ -17,8 +17,8 @@ good-run-requires c κs = search needs
 returns : tie.Need-returns
 returns c = λ e. absurd (false≢true e)
 
-config-in-requires : tie.Need-config-in-requires
-config-in-requires c κs = search needs
+config-at-requires : tie.Need-config-at-requires
+config-at-requires c κs = search needs
 
 good-bounds-requires : tie.Need-good-bounds-requires
 good-bounds-requires c κs = search needs
@@ -33,7 +33,7 @@ returns-3 : tie.Need-returns-3
 returns-3 c =
     let slot = c .before .before .before .before .before .before .before .before .args .slot .now in
     λ t. sym (config-decides (stateIn slot) (passed (rw (c .before .before .before .before .before .before .state-in .ensures) at (c .before .before .before .before .before .good-run .ensures)) (c .before .before .before .before .if1 .left)))
-    ∙ sym (ranges-decide (configIn slot) (passed (rw (c .before .before .before .config-in .ensures) at (c .before .before .good-bounds .ensures)) (c .before .if2 .left)))
+    ∙ sym (ranges-decide (configIn slot) (passed (rw (c .before .before .before .config-at .ensures) at (c .before .before .good-bounds .ensures)) (c .before .if2 .left)))
     ∙ c .rising .ensures t
 
 pub usual-spec : {M : Type 1} → statement M
@@ -43,7 +43,7 @@ usual-spec =
     state-in-requires
     good-run-requires
     returns
-    config-in-requires
+    config-at-requires
     good-bounds-requires
     returns-2
     rising-requires

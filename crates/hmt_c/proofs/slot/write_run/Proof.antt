@@ -14,6 +14,9 @@ slice-write-slot c = search needs
 high-requires : tie.Need-high-requires
 high-requires c κs = search needs
 
+add-slot : tie.Need-add-slot
+add-slot c = search needs
+
 slice-write-slot-2 : tie.Need-slice-write-slot-2
 slice-write-slot-2 c = search needs
 
@@ -25,6 +28,9 @@ slice-write-slot-3 c = search needs
 
 high-requires-2 : tie.Need-high-requires-2
 high-requires-2 c κs = search needs
+
+add-slot-2 : tie.Need-add-slot-2
+add-slot-2 c = search needs
 
 slice-write-slot-4 : tie.Need-slice-write-slot-4
 slice-write-slot-4 c = search needs
@@ -45,10 +51,12 @@ write-run-spec =
     low-requires
     slice-write-slot
     high-requires
+    add-slot
     slice-write-slot-2
     low-requires-2
     slice-write-slot-3
     high-requires-2
+    add-slot-2
     slice-write-slot-4
     slice-write-slot-5
     same-length

@@ -1,8 +1,6 @@
 -- `operations::call_check::answer` meets its contract. Assumes nothing.
-use mathlib.Core.Path.{_∙_}
+use borrow.Author.Tests.{lt-ltb, le-ltb}
 use Rattle.laws.proofs.Tests.{failed, passed}
-use Rattle.operations.specs.CallRows.{tableOf}
-use Rattle.operations.proofs.CallRows.{tableOf-length, site-outside, local-rest, cross-rest}
 use borrow.Author.Needs.{needs}
 use Rattle.operations.proofs.call_check.answer.Statement.{statement}
 use Rattle.operations.proofs.call_check.answer.Tie as tie
@@ -11,30 +9,21 @@ in-range-requires : tie.Need-in-range-requires
 in-range-requires c κs = search needs
 
 returns : tie.Need-returns
-returns c =
-    let x = c .before .before .before .before .args in
-    site-outside (x .state) (x .ram .now) (tableOf (x .word)) (x .target) (x .site) (x .pointer) (c .before .before .before .before .pre .0) (tableOf-length (x .word)) (c .before .before .before .before .pre .1)
-    (rw (c .before .before .before .before .pre .2) at (failed (c .before .in-range .ensures) (c .if1 .taken)))
+returns c = rw (rw (c .before .before .before .pre .1) at (failed (c .before .in-range .ensures) (c .if1 .taken)))
 
 local-answer-requires : tie.Need-local-answer-requires
-local-answer-requires c κs = (c .before .before .before .before .before .before .before .pre .1, c .before .before .before .before .before .before .before .pre .2)
+local-answer-requires c κs = (c .before .before .before .before .before .before .pre .0, c .before .before .before .before .before .before .pre .1)
 
 returns-2 : tie.Need-returns-2
 returns-2 c =
-    let x = c .before .before .before .before .before .before .before .before .args in
-    c .local-answer .ensures
-    ∙ local-rest (x .state) (x .ram .now) (tableOf (x .word)) (x .target) (x .site) (x .pointer) (c .before .before .before .before .before .before .before .before .pre .0) (tableOf-length (x .word)) (c .before .before .before .before .before .before .before .before .pre .1)
-    (rw (c .before .before .before .before .before .before .before .before .pre .2) at (passed (c .before .before .before .before .before .in-range .ensures) (c .before .before .before .before .if1 .left))) (c .before .if2 .taken)
+    rw (rw (c .before .before .before .before .before .before .before .pre .1) at (passed (c .before .before .before .before .before .in-range .ensures) (c .before .before .before .before .if1 .left)), lt-ltb _ _ (c .before .if2 .taken)) (c .local-answer .ensures)
 
 cross-answer-requires : tie.Need-cross-answer-requires
-cross-answer-requires c κs = (c .before .before .before .before .before .before .before .pre .1, c .if2 .left, c .before .before .before .before .before .before .before .pre .3)
+cross-answer-requires c κs = (c .before .before .before .before .before .before .pre .0, c .if2 .left, c .before .before .before .before .before .before .pre .2)
 
 returns-3 : tie.Need-returns-3
 returns-3 c =
-    let x = c .before .before .before .before .before .before .before .before .args in
-    c .cross-answer .ensures
-    ∙ cross-rest (x .state) (x .ram .now) (tableOf (x .word)) (x .target) (x .site) (x .pointer) (c .before .before .before .before .before .before .before .before .pre .0) (tableOf-length (x .word)) (c .before .before .before .before .before .before .before .before .pre .1)
-    (rw (c .before .before .before .before .before .before .before .before .pre .2) at (passed (c .before .before .before .before .before .in-range .ensures) (c .before .before .before .before .if1 .left))) (c .before .if2 .left)
+    rw (rw (c .before .before .before .before .before .before .before .pre .1) at (passed (c .before .before .before .before .before .in-range .ensures) (c .before .before .before .before .if1 .left)), le-ltb _ _ (c .before .if2 .left)) (c .cross-answer .ensures)
 
 pub answer-spec : {M : Type 1} → statement M
 answer-spec = tie.close (tie.spec in-range-requires returns local-answer-requires returns-2 cross-answer-requires returns-3)

@@ -1,7 +1,7 @@
 -- `operations::segment_check::segment_at` meets its contract. Assumes nothing.
 use mathlib.Core.Path.{refl}
 use native.Mathlib.Omega.{arith}
-use borrow.Author.Tests.{eq-eqb, ne-eqb, le-leb, lt-leb, lt-ltb, le-ltb}
+use borrow.Author.Tests.{ne-eqb, le-leb, lt-leb, lt-ltb, le-ltb}
 use Rattle.laws.proofs.Tests.{passed, failed}
 use Rattle.map.proofs.Within.{bot≤heap, code<ram, block<safe}
 use Rattle.operations.proofs.Acts.{config-good}
@@ -10,32 +10,17 @@ use Rattle.operations.proofs.segment_check.segment_at.Statement.{statem
 use Rattle.operations.proofs.segment_check.segment_at.Tie as tie
 
 returns : tie.Need-returns
-returns c =
-    simp (eq-eqb _ _ (c .before .before .before .before .before .pre .0), c .before .before .before .before .before .pre .1, lt-leb _ _ (c .if1 .taken))
-    (refl, λ d. refl)
+returns c = simp (lt-leb _ _ (c .if1 .taken)) (refl, λ d. refl)
 
 returns-2 : tie.Need-returns-2
-returns-2 c =
-    simp (
-      eq-eqb _ _ (c .before .before .before .before .before .before .before .before .pre .0),
-      c .before .before .before .before .before .before .before .before .pre .1,
-      le-leb _ _ (c .before .before .before .if1 .left),
-      le-ltb _ _ (c .if2 .taken),
-    )
-    (refl, λ d. refl)
+returns-2 c = simp (le-leb _ _ (c .before .before .before .if1 .left), le-ltb _ _ (c .if2 .taken)) (refl, λ d. refl)
 
 is-first-requires : tie.Need-is-first-requires
 is-first-requires c κs = omega (arith, bot≤heap _ (config-good _ (c .before .before .before .before .before .before .before .before .pre .1)), c .before .before .before .if1 .left)
 
 returns-3 : tie.Need-returns-3
 returns-3 c =
-    simp (
-      eq-eqb _ _ (c .before .before .before .before .before .before .before .before .before .before .pre .0),
-      c .before .before .before .before .before .before .before .before .before .before .pre .1,
-      le-leb _ _ (c .before .before .before .before .before .if1 .left),
-      lt-ltb _ _ (c .before .before .if2 .left),
-      failed (c .before .is-first .ensures) (c .if3 .taken),
-    )
+    simp (le-leb _ _ (c .before .before .before .before .before .if1 .left), lt-ltb _ _ (c .before .before .if2 .left), failed (c .before .is-first .ensures) (c .if3 .taken))
     (refl, λ d. refl)
 
 code-at-requires : tie.Need-code-at-requires
@@ -49,8 +34,6 @@ starts-segment-requires c κs = search needs
 returns-4 : tie.Need-returns-4
 returns-4 c =
     simp (
-      eq-eqb _ _ (c .before .before .before .before .before .before .before .before .before .before .before .before .before .pre .0),
-      c .before .before .before .before .before .before .before .before .before .before .before .before .before .pre .1,
       le-leb _ _ (c .before .before .before .before .before .before .before .before .if1 .left),
       lt-ltb _ _ (c .before .before .before .before .before .if2 .left),
       passed (c .before .before .before .before .is-first .ensures) (c .before .before .before .if3 .left),
@@ -64,8 +47,6 @@ owner-of-requires c κs = search needs
 returns-5 : tie.Need-returns-5
 returns-5 c =
     simp (
-      eq-eqb _ _ (c .before .before .before .before .before .before .before .before .before .before .before .before .before .before .before .before .pre .0),
-      c .before .before .before .before .before .before .before .before .before .before .before .before .before .before .before .before .pre .1,
       le-leb _ _ (c .before .before .before .before .before .before .before .before .before .before .before .if1 .left),
       lt-ltb _ _ (c .before .before .before .before .before .before .before .before .if2 .left),
       passed (c .before .before .before .before .before .before .before .is-first .ensures) (c .before .before .before .before .before .before .if3 .left),
@@ -77,8 +58,6 @@ returns-5 c =
 returns-6 : tie.Need-returns-6
 returns-6 c =
     record {
-      sized = c .before .before .before .before .before .before .before .before .before .before .before .before .before .before .before .before .pre .0;
-      good = c .before .before .before .before .before .before .before .before .before .before .before .before .before .before .before .before .pre .1;
       starts =
           simp (
             le-leb _ _ (c .before .before .before .before .before .before .before .before .before .before .before .if1 .left),

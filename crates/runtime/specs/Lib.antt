@@ -1,2 +1,0 @@
--- What a private function answers for.
-pub mod FirstRows
