@@ -18,14 +18,9 @@ use Rattle.laws.proofs.Tests.{both, each}
 pub header-facts : (input : List ℕ) → headerGood input ≡ true
     → (operationsPlace input ≤ length input) × (indicesGood input (pairsPlace (versionAt input)) (countAt input) ≡ true)
 header-facts input g =
-    let (a, (m, (h, (e, f)))) =
-    each (leb markBytes (length input)) (
-      markGood input
-      ∷ leb (pairsPlace (versionAt input)) (length input)
-      ∷ leb (operationsPlace input) (length input)
-      ∷ indicesGood input (pairsPlace (versionAt input)) (countAt input)
-      ∷ []
-    ) g in
+    let at = pairsPlace (versionAt input) in
+    let behind = leb at (length input) ∷ leb (operationsPlace input) (length input) ∷ indicesGood input at (countAt input) ∷ [] in
+    let (a, (m, (h, (e, f)))) = each (leb markBytes (length input)) (markGood input ∷ behind) g in
     (leb-true (operationsPlace input) (length input) e, f)
 
 module _ (input : List ℕ) (at : ℕ) where

@@ -17,7 +17,7 @@ const RAM_BYTES: usize = address::RAM_BYTES as usize;
 const TABLE_WORDS: usize = header::TABLE_WORDS as usize;
 
 const MOST_BYTES: usize = 65536;
-// Enough for the text of any script: the lines of set-up, and a line for each byte behind the header.
+// Enough for the text of any script: the lines of set-up, and a line for each byte behind the shortest header.
 pub const MOST_TEXT: usize = 2357586;
 
 // The lines of the operations, from the first to the end or to one that is unknown or cut.

@@ -2,7 +2,7 @@
 use mathlib.Core.Path.{refl, sym, _∙_}
 use native.Mathlib.Omega.{arith}
 use lib.ListN.{length}
-use borrow.Author.Tests.{not-true, not-false}
+use Rattle.laws.proofs.Tests.{failed, passed}
 use borrow.Author.Needs.{needs}
 use Rattle.script.specs.Text.{handed, setUpMost}
 use Rattle.script.proofs.Headers.{header-facts}
@@ -47,17 +47,17 @@ returns-3 c =
     let input = c .before .before .before .before .before .before .before .before .before .before .before .args .input .now in
     printed-first
     (printed-text input (length (c .before .before .before .before .before .before .before .before .before .before .before .args .out .now)) (c .before .before .before .before .before .before .before .before .if1 .left)
-    ∙ text-bad input (c .before .before .before .before .before .before .before .if2 .left) (sym (c .before .before .before .before .before .before .header-good .ensures) ∙ not-true _ (c .before .before .before .before .before .if3 .taken)))
+    ∙ text-bad input (c .before .before .before .before .before .before .before .if2 .left) (failed (c .before .before .before .before .before .before .header-good .ensures) (c .before .before .before .before .before .if3 .taken)))
     (c .before .before .put-text2 .ensures)
 
 slice-aggregate-fill-table : tie.Need-slice-aggregate-fill-table
 slice-aggregate-fill-table c = search needs
 
 fill-table-requires : tie.Need-fill-table-requires
-fill-table-requires c κs = (sym (c .before .before .header-good .ensures) ∙ not-false _ (c .before .if3 .left), refl)
+fill-table-requires c κs = (passed (c .before .before .header-good .ensures) (c .before .if3 .left), refl)
 
 header-config-requires : tie.Need-header-config-requires
-header-config-requires c κs = omega (arith, header-facts (c .before .before .before .before .before .before .before .before .before .args .input .now) (sym (c .before .before .before .before .header-good .ensures) ∙ not-false _ (c .before .before .before .if3 .left)) .0)
+header-config-requires c κs = omega (arith, header-facts (c .before .before .before .before .before .before .before .before .before .args .input .now) (passed (c .before .before .before .before .header-good .ensures) (c .before .before .before .if3 .left)) .0)
 
 slice-aggregate-set-up : tie.Need-slice-aggregate-set-up
 slice-aggregate-set-up c = search needs
@@ -79,7 +79,7 @@ returns-4 c =
     let input = c .before .before .before .before .before .before .before .before .before .before .before .before .before .before .before .before .before .before .before .args .input .now in
     printed-first
     (printed-text input (length (c .before .before .before .before .before .before .before .before .before .before .before .before .before .before .before .before .before .before .before .args .out .now)) (c .before .before .before .before .before .before .before .before .before .before .before .before .before .before .before .before .if1 .left)
-    ∙ text-good input (c .before .before .before .before .before .before .before .before .before .before .before .before .before .before .before .if2 .left) (sym (c .before .before .before .before .before .before .before .before .before .before .before .before .before .before .header-good .ensures) ∙ not-false _ (c .before .before .before .before .before .before .before .before .before .before .before .before .before .if3 .left))
+    ∙ text-good input (c .before .before .before .before .before .before .before .before .before .before .before .before .before .before .before .if2 .left) (passed (c .before .before .before .before .before .before .before .before .before .before .before .before .before .before .header-good .ensures) (c .before .before .before .before .before .before .before .before .before .before .before .before .before .if3 .left))
     ∙ run-refused input (c .before .before .before .before .before .before .before .set-up .result) (c .before .before .before .before .before .before .before .before .before .header-config .ensures) (c .before .before .before .before .before .before .before .set-up .ensures) (λ e. c .if4 .taken (c .before .number-of .ensures ∙ e)))
     (c .before .before .before .before .put-set-up .ensures)
 
@@ -91,7 +91,7 @@ slice-aggregate-put-lines-2 c = search needs
 
 put-lines-requires : tie.Need-put-lines-requires
 put-lines-requires c κs =
-    let (l, g) = header-facts (c .before .before .before .before .before .before .before .before .before .before .before .before .before .before .before .before .before .before .before .before .before .before .before .args .input .now) (sym (c .before .before .before .before .before .before .before .before .before .before .before .before .before .before .before .before .before .before .header-good .ensures) ∙ not-false _ (c .before .before .before .before .before .before .before .before .before .before .before .before .before .before .before .before .before .if3 .left)) in
+    let (l, g) = header-facts (c .before .before .before .before .before .before .before .before .before .before .before .before .before .before .before .before .before .before .before .before .before .before .before .args .input .now) (passed (c .before .before .before .before .before .before .before .before .before .before .before .before .before .before .before .before .before .before .header-good .ensures) (c .before .before .before .before .before .before .before .before .before .before .before .before .before .before .before .before .before .if3 .left)) in
     let s = step setUpMost (set-up-most (handed (c .before .before .before .before .before .before .before .before .before .before .before .set-up .result))) (c .before .before .before .before .before .before .before .before .put-set-up .ensures) in
     (l, c .before .before .before .before .before .before .before .before .before .before .before .before .before .before .before .before .before .before .before .if2 .left, omega (arith, l, c .before .before .before .before .before .before .before .before .before .before .before .before .before .before .before .before .before .before .before .if2 .left, c .before .before .before .before .before .before .before .before .before .before .before .before .before .before .before .before .before .before .before .before .if1 .left, s .near, s .kept))
 
@@ -103,7 +103,7 @@ returns-5 c =
     let input = c .before .before .before .before .before .before .before .before .before .before .before .before .before .before .before .before .before .before .before .before .before .before .before .before .before .before .before .args .input .now in
     printed-first
     (printed-text input (length (c .before .before .before .before .before .before .before .before .before .before .before .before .before .before .before .before .before .before .before .before .before .before .before .before .before .before .before .args .out .now)) (c .before .before .before .before .before .before .before .before .before .before .before .before .before .before .before .before .before .before .before .before .before .before .before .before .if1 .left)
-    ∙ text-good input (c .before .before .before .before .before .before .before .before .before .before .before .before .before .before .before .before .before .before .before .before .before .before .before .if2 .left) (sym (c .before .before .before .before .before .before .before .before .before .before .before .before .before .before .before .before .before .before .before .before .before .before .header-good .ensures) ∙ not-false _ (c .before .before .before .before .before .before .before .before .before .before .before .before .before .before .before .before .before .before .before .before .before .if3 .left))
+    ∙ text-good input (c .before .before .before .before .before .before .before .before .before .before .before .before .before .before .before .before .before .before .before .before .before .before .before .if2 .left) (passed (c .before .before .before .before .before .before .before .before .before .before .before .before .before .before .before .before .before .before .before .before .before .before .header-good .ensures) (c .before .before .before .before .before .before .before .before .before .before .before .before .before .before .before .before .before .before .before .before .before .if3 .left))
     ∙ run-done input (c .before .before .before .before .before .before .before .before .before .before .before .before .before .before .before .set-up .result) (c .before .before .before .before .before .before .before .before .before .before .before .before .before .before .before .before .before .header-config .ensures) (c .before .before .before .before .before .before .before .before .before .before .before .before .before .before .before .set-up .ensures) (sym (c .before .before .before .before .before .before .before .before .before .number-of .ensures) ∙ c .before .before .before .before .before .before .before .before .if4 .left) _ (c .before .before .before .before .before .before .before .before .before .before .before .before .before .before .before .before .before .before .before .fill-table .ensures))
     (wrote-then (c .before .before .before .before .before .before .before .before .before .before .before .before .put-set-up .ensures) (c .before .before .before .put-lines .ensures))
 
