@@ -175,7 +175,7 @@ def facts(text):
             found += [f"{place} {name}" for name in names]
             other += [] if names else [f"{function}: no proof, {why[:200]}"]
     # a module of a crate between stands in the library that rt wrote of it
-    return list(dict.fromkeys(re.sub(r"^\S*(?:crates|rlib)/(\w+)(?:\.rlib/lang/antt)?/", r"\1: ", fact) for fact in found)), other
+    return list(dict.fromkeys(re.sub(r"^\S*?(?:crates|rlib)/(\w+)(?:\.rlib/lang/antt)?/", r"\1: ", fact) for fact in found)), other
 
 
 def judge(edit, status, text):
