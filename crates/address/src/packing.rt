@@ -2,6 +2,7 @@
 ghost use mathlib.Core.Path.{_≡_};
 ghost use Prim.Native.Nat.{_≤_};
 ghost use Rattle.rules.specs.Memory.{ramBytes, layoutOf, mapBytesFor, mapByte};
+ghost use Rattle.rules.specs.State.{ramByte};
 ghost use Rattle.address.specs.Places.{mapAt, toWhole};
 use crate::divided_up;
 use rules::Block;
@@ -20,7 +21,7 @@ pub fn map_bytes_for(config: Config, n: u16) -> u16
 // The byte of the map that holds a block's code; of a block behind a run it may be the one behind RAM.
 pub fn map_byte(bot: RamByte, k: Block) -> RamByte
     requires { ⌜ mapByte (mapAt bot) (k .0) ≤ ramBytes ⌝ }
-    ensures { λ r. ⌜ r .0 ≡ mapByte (mapAt bot) (k .0) ⌝ }
+    ensures { λ r. ⌜ r ≡ ramByte (mapByte (mapAt bot) (k .0)) ⌝ }
 {
     crate::above(bot, k.0 / PER_BYTE)
 }

@@ -37,7 +37,7 @@ pub fn range_at(bytes: &[u8], at: usize) -> Range
 }
 
 // The code range of a domain, of the configuration that stands at a place.
-pub fn code_at(bytes: &[u8], at: usize, domain: u8) -> Range
+pub fn code_range(bytes: &[u8], at: usize, domain: u8) -> Range
     requires { ⌜ (at + configBytes ≤ length (now bytes)) × (domain ≤ trusted) ⌝ }
     ensures { λ r. ⌜ r ≡ rangeOf (configAt (now (bytes .entry)) at) domain ⌝ }
 {
@@ -50,14 +50,14 @@ fn ranges_at(bytes: &[u8], at: usize) -> [Range; 8]
     ensures { λ r. ⌜ r ≡ rangesAt (now (bytes .entry)) (rangesPlace at) domains ⌝ }
 {
     [
-        code_at(bytes, at, 0),
-        code_at(bytes, at, 1),
-        code_at(bytes, at, 2),
-        code_at(bytes, at, 3),
-        code_at(bytes, at, 4),
-        code_at(bytes, at, 5),
-        code_at(bytes, at, 6),
-        code_at(bytes, at, 7),
+        code_range(bytes, at, 0),
+        code_range(bytes, at, 1),
+        code_range(bytes, at, 2),
+        code_range(bytes, at, 3),
+        code_range(bytes, at, 4),
+        code_range(bytes, at, 5),
+        code_range(bytes, at, 6),
+        code_range(bytes, at, 7),
     ]
 }
 

@@ -12,7 +12,7 @@ mod slot;
 
 use answer::packed;
 use answer::refused;
-use codec::config::code_at;
+use codec::config::code_range;
 use codec::config::config_at;
 use codec::word_at;
 use operands::flash_word;
@@ -103,8 +103,8 @@ pub extern "C" fn hmt_call(
     }
     let state = state_in(slot);
     let at = table_word(state.config.jt, flash_word(target));
-    let code = code_at(slot, CONFIG, state.domain);
-    let called = code_at(slot, CONFIG, domain_of(at));
+    let code = code_range(slot, CONFIG, state.domain);
+    let called = code_range(slot, CONFIG, domain_of(at));
     let word = word_at(table, 2 * (at as usize));
     let outcome = operations::call_with(
         state,
@@ -132,7 +132,7 @@ pub extern "C" fn hmt_return(ram: &mut [u8], slot: &mut [u8]) -> u32
         return refused(Refusal::NoFrame);
     }
     let frame = top_frame(state, ram);
-    let code = code_at(slot, CONFIG, caller(state, frame));
+    let code = code_range(slot, CONFIG, caller(state, frame));
     let outcome = operations::ret_with(state, frame, code);
     slot::change(slot, outcome)
 }

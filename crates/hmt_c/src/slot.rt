@@ -9,8 +9,8 @@ ghost use Rattle.rules.specs.Slot.{slotBytes, runPart, configIn, stateIn, runAs
 ghost use Rattle.laws.proofs.ToC.{after};
 use crate::answer::refused;
 use codec::config::JT;
-use codec::config::RANGES;
 use codec::config::RANGE_BYTES;
+use codec::config::RANGES;
 use codec::config::config_at;
 use codec::ram_byte_at;
 use codec::word_at;

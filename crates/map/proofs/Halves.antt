@@ -10,7 +10,12 @@ use lib.ListN.{length, getD, set}
 use lib.Seq.{getD-set-same, set-set}
 use Rattle.rules.specs.declared.RamByte.{RamByte}
 use Rattle.rules.specs.Memory.{radix, perByte, digit, setDigit, mapByte, mapDigit, codeOf, setCode}
+use Rattle.rules.specs.State.{ramByte}
 use Rattle.address.specs.Places.{mapAt}
+
+-- the number of an address that is known
+pub byte-at : {a : RamByte} {n : ℕ} → a ≡ ramByte n → a .0 ≡ n
+byte-at e = ap (λ (a : RamByte). a .0) e
 
 module _ (bot : RamByte) (ram : List ℕ) (k at : ℕ) (place : at ≡ mapByte (mapAt bot) k) where
   pub low-half : k % 2 ≡ 0 → getD ram at 0 % 16 ≡ codeOf (mapAt bot) ram k

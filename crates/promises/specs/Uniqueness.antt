@@ -19,17 +19,19 @@ use Rattle.rules.specs.declared.State.{State}
 use Rattle.rules.specs.declared.Frame.{Frame}
 use Rattle.rules.specs.declared.Found.{Found}
 use Rattle.rules.specs.declared.Answer.{Answer}
-use Rattle.rules.specs.Memory.{ramBytes, layoutOf, startOf, blockOf, blocksFor, isMultiple, mapBytesFor, codeOf, codesOf, setCodes, startCode, laterCode, freeCode, ownerOf, startsSegment}
-use Rattle.rules.specs.Code.{tableWords, domainWords, flashWord}
+use Rattle.rules.specs.declared.Outcome.{Outcome}
+use Rattle.rules.specs.declared.Operation.{Operation}
+use Rattle.rules.specs.Memory.{ramBytes, Layout, layoutOf, mapByte, isDomain, isModule, startOf, blockOf, blocksFor, isMultiple, mapBytesFor, codeOf, codesOf, setCodes, startCode, laterCode, freeCode, ownerOf, startsSegment}
+use Rattle.rules.specs.Code.{rangeOf, tableWords, domainWords, flashWord}
 use Rattle.rules.specs.State.{ramByte, multiples, botBelowTop, mapBelowHeap, heapBelowSafe, safeBelowTop, topInRam, jtInFlash, rangesOrdered, rangesApart, goodConfig, domainGood, boundGood, safepointerGood, goodState}
 use Rattle.rules.specs.Answers.{numberOf, valueOf, Given, Gives}
 use Rattle.rules.specs.SetUp.{setUpRam, setUpOf}
-use Rattle.rules.specs.Bytes.{low, high}
+use Rattle.rules.specs.Bytes.{low, high, wordAt, rangeAt, configAt}
 use Rattle.rules.specs.Call.{frameBytes}
 use Rattle.rules.specs.Return.{readFrame, topFrame}
 use Rattle.rules.specs.Malloc.{block, lowestRun}
 use Rattle.rules.specs.Free.{segmentBlocks}
-use Rattle.rules.specs.Operations.{storeOf, callOf, returnOf, mallocOf, freeOf, changeOf}
+use Rattle.rules.specs.Operations.{lending, operationOf, storeOf, callOf, returnOf, mallocOf, freeOf, changeOf}
 use Rattle.rules.specs.Slot.{GivenToC, GivesToC, cSetUpOf, cStoreOf, cCallOf, cReturnOf, cMallocOf, cFreeOf, cChangeOf}
 
 -- no two results meet P; no two pairs, no two triples, of a result and what is left in the places that were lent
@@ -49,6 +51,7 @@ pub record Uniqueness : Type 1 where
   pub givesToC : (g : GivenToC) → Only3 (λ r slot ram. GivesToC r slot ram g)
   -- crates/runtime, and those of crates/operations that have the same contract
   pub «set_up» : (config : Config) (ram : List ℕ) → Only2 (λ r ram′. Gives r ram′ (setUpOf config ram))
+  pub operate : (state : State) (ram table : List ℕ) (op : Operation) → Only2 (λ r ram′. Gives r ram′ (operationOf state ram (lending table) op))
   pub store : (state : State) (ram : List ℕ) (address : RamByte) (byte : ℕ)
       → Only2 (λ r ram′. Gives r ram′ (storeOf state ram address byte))
   pub call : (state : State) (ram table : List ℕ) (target site : FlashWord) (pointer : RamByte)
@@ -63,7 +66,7 @@ pub record Uniqueness : Type 1 where
   -- the others of crates/operations; `tableOf` is a table that has one word everywhere, `callerOf` the domain that a frame returns to
   pub «call_with» : (tableOf : ℕ → List ℕ) (state : State) (ram : List ℕ) (code called : Range) (word : ℕ) (target site : FlashWord) (pointer : RamByte)
       → Only2 (λ r ram′. Gives r ram′ (callOf state ram (tableOf word) target site pointer))
-  pub «ret_with» : (state : State) (ram : List ℕ) (frame : Frame) (code : Range) → Only (λ r. Gives r ram (returnOf state ram))
+  pub «ret_with» : (returning : State → Frame → Outcome) (state : State) (frame : Frame) (code : Range) → Only (λ r. r ≡ returning state frame)
   pub «table_word» : (jt target : FlashWord)
       → Only (λ r. (r < tableWords) × (target .0 - jt .0 < tableWords → r ≡ target .0 - jt .0) × (tableWords ≤ target .0 - jt .0 → r ≡ 0))
   pub «domain_of» : (word : ℕ) → Only (λ r. r ≡ word / domainWords)
@@ -83,7 +86,7 @@ pub record Uniqueness : Type 1 where
   -- crates/script; `printed` is the text of a script, or nothing where there is no room for it
   pub run : (printed : List ℕ → ℕ → List ℕ) (input out : List ℕ)
       → Only2 (λ r out′. (r ≡ length (printed input (length out))) × (out′ ≡ (printed input (length out)) ++ drop r out))
-  -- crates/address
+  -- crates/address; `mapAt` is a map by where it begins, `toWhole` the distance to a byte's first block
   pub «whole_blocks» : (config : Config) (a : RamByte) → Only (λ r. r ≡ blockOf config a)
   pub «block_of» : (config : Config) (a : RamByte) → Only (λ r. r ≡ block (blockOf config a))
   pub «start_of» : (config : Config) (k : Block) → Only (λ r. r ≡ ramByte (startOf config (k .0)))
@@ -102,6 +105,17 @@ pub record Uniqueness : Type 1 where
   pub «word_of» : (low high : ℕ) → Only (λ r. r ≡ flashWord (low + 256 * high))
   pub entry : (word : ℕ) → Only (λ r. r ≡ flashWord word)
   pub «map_bytes_for» : (config : Config) (n : ℕ) → Only (λ r. r ≡ mapBytesFor (layoutOf config) n)
+  pub «map_byte» : (mapAt : RamByte → Layout) (bot : RamByte) (k : Block) → Only (λ r. r ≡ ramByte (mapByte (mapAt bot) (k .0)))
+  pub «to_whole» : (mapAt : RamByte → Layout) (toWhole : Layout → ℕ → ℕ) (bot : RamByte) (k : Block) → Only (λ r. r ≡ toWhole (mapAt bot) (k .0))
+  pub «is_domain» : (config : Config) (domain : ℕ) → Only (λ r. r ≡ isDomain config domain)
+  pub «is_module» : (config : Config) (domain : ℕ) → Only (λ r. r ≡ isModule config domain)
+  -- crates/codec
+  pub «word_at» : (bytes : List ℕ) (at : ℕ) → Only (λ r. r ≡ wordAt bytes at)
+  pub «ram_byte_at» : (bytes : List ℕ) (at : ℕ) → Only (λ r. r ≡ ramByte (wordAt bytes at))
+  pub «flash_word_at» : (bytes : List ℕ) (at : ℕ) → Only (λ r. r ≡ flashWord (wordAt bytes at))
+  pub «range_at» : (bytes : List ℕ) (at : ℕ) → Only (λ r. r ≡ rangeAt bytes at)
+  pub «code_range» : (bytes : List ℕ) (at domain : ℕ) → Only (λ r. r ≡ rangeOf (configAt bytes at) domain)
+  pub «config_at» : (bytes : List ℕ) (at : ℕ) → Only (λ r. r ≡ configAt bytes at)
   -- crates/frames
   pub low : (n : ℕ) → Only (λ r. r ≡ low n)
   pub high : (n : ℕ) → Only (λ r. r ≡ high n)

@@ -68,15 +68,15 @@ flash-word-requires c κs = search needs
 table-word-requires : tie.Need-table-word-requires
 table-word-requires c κs = search needs
 
-code-at-requires : tie.Need-code-at-requires
-code-at-requires c κs =
+code-range-requires : tie.Need-code-range-requires
+code-range-requires c κs =
     (omega (arith, sizes (c .before .before .before .before .before) .0), rw (c .before .before .before .state-in .ensures) (domain≤trusted (goodState-facts (stateIn (now (c .before .before .before .before .before .before .before .before .before .before .before .before .before .args .slot))) (ready (c .before .before .before .before .before) .good))))
 
 domain-of-requires : tie.Need-domain-of-requires
 domain-of-requires c κs = search needs
 
-code-at-requires-2 : tie.Need-code-at-requires-2
-code-at-requires-2 c κs =
+code-range-requires-2 : tie.Need-code-range-requires-2
+code-range-requires-2 c κs =
     (omega (arith, sizes (c .before .before .before .before .before .before .before .before) .0), omega (arith, c .domain-of .ensures, c .before .before .before .before .table-word .ensures .0))
 
 cast-word-at : tie.Need-cast-word-at
@@ -101,7 +101,7 @@ call-with-requires : tie.Need-call-with-requires
 call-with-requires c κs =
     let word = rw (c .before .before .before .before .before .before .before .before .before .before .before .before .state-in .ensures, c .before .before .before .before .before .before .before .before .before .before .before .flash-word .ensures) at (c .before .before .before .before .before .before .before .before .before .before .table-word .ensures .1) in
     rw (c .before .before .before .before .before .before .before .before .before .before .before .before .state-in .ensures, c .before .before .flash-word2 .ensures)
-    (sizes (c .before .before .before .before .before .before .before .before .before .before .before .before .before .before) .1, ready (c .before .before .before .before .before .before .before .before .before .before .before .before .before .before) .good, rw (c .before .before .before .before .before .before .before .before .before .before .before .before .state-in .ensures) at (c .before .before .before .before .before .before .before .before .code-at .ensures), λ from to. c .before .before .before .before .before .code-at2 .ensures ∙ ap (rangeOf (configIn (now (c .before .before .before .before .before .before .before .before .before .before .before .before .before .before .before .before .before .before .before .before .before .before .args .slot)))) (c .before .before .before .before .before .before .domain-of .ensures ∙ ap (λ w. w / domainWords) (word to)))
+    (sizes (c .before .before .before .before .before .before .before .before .before .before .before .before .before .before) .1, ready (c .before .before .before .before .before .before .before .before .before .before .before .before .before .before) .good, rw (c .before .before .before .before .before .before .before .before .before .before .before .before .state-in .ensures) at (c .before .before .before .before .before .before .before .before .code-range .ensures), λ from to. c .before .before .before .before .before .code-range2 .ensures ∙ ap (rangeOf (configIn (now (c .before .before .before .before .before .before .before .before .before .before .before .before .before .before .before .before .before .before .before .before .before .before .args .slot)))) (c .before .before .before .before .before .before .domain-of .ensures ∙ ap (λ w. w / domainWords) (word to)))
 
 change-requires : tie.Need-change-requires
 change-requires c κs = sizes (c .before .before .before .before .before .before .before .before .before .before .before .before .before .before .before .before .before .before) .0
@@ -145,9 +145,9 @@ hmt-call-spec =
     state-in-requires
     flash-word-requires
     table-word-requires
-    code-at-requires
+    code-range-requires
     domain-of-requires
-    code-at-requires-2
+    code-range-requires-2
     cast-word-at
     mul-word-at
     word-at-requires

@@ -67,8 +67,8 @@ top-frame-requires c κs = rw (c .before .before .before .state-in .ensures) (si
 caller-requires : tie.Need-caller-requires
 caller-requires c κs = search needs
 
-code-at-requires : tie.Need-code-at-requires
-code-at-requires c κs =
+code-range-requires : tie.Need-code-range-requires
+code-range-requires c κs =
     let args = c .before .before .before .before .before .before .before .before .before .before .before .before .before .before .args in
     let size = sizes (c .before .before .before .before .before .before .before .before) in
     let is = rw (c .before .before .before .before .before .before .state-in .ensures) at (c .before .before .top-frame .ensures) in
@@ -79,7 +79,7 @@ ret-with-requires c κs =
     let args = c .before .before .before .before .before .before .before .before .before .before .before .before .before .before .before .args in
     let s : State = stateIn (now (args .slot)) in
     let is = rw (c .before .before .before .before .before .before .before .state-in .ensures) at (c .before .before .before .top-frame .ensures) in
-    let range = c .code-at .ensures ∙ ap (rangeOf (configIn (now (args .slot)))) (c .before .caller .ensures) in
+    let range = c .code-range .ensures ∙ ap (rangeOf (configIn (now (args .slot)))) (c .before .caller .ensures) in
     rw (c .before .before .before .before .before .before .before .state-in .ensures)
     (some (c .before .before .before .before .before), frame-below s (now (args .ram)) _ is (area s (now (args .ram)) (sizes (c .before .before .before .before .before .before .before .before .before) .1) (ready (c .before .before .before .before .before .before .before .before .before) .good)), rw (c .before .before .before .before .before .before .before .state-in .ensures) at range)
 
@@ -117,7 +117,7 @@ hmt-return-spec =
     returns-2
     top-frame-requires
     caller-requires
-    code-at-requires
+    code-range-requires
     ret-with-requires
     change-requires
     same-length-5

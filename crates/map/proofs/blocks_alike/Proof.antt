@@ -5,7 +5,7 @@ use native.Mathlib.Decide.{ℕ-discrete}
 use native.Mathlib.Omega.{arith}
 use Rattle.rules.specs.Memory.{radix, dividedUp, mapByte, mapDigit, mapBytesFor, perByte, codeOf}
 use Rattle.address.specs.Places.{mapAt}
-use Rattle.map.proofs.Halves.{codes-of-bytes, codes-differ}
+use Rattle.map.proofs.Halves.{byte-at, codes-of-bytes, codes-differ}
 use borrow.Author.Needs.{needs}
 use Rattle.map.proofs.blocks_alike.Statement.{statement}
 use Rattle.map.proofs.blocks_alike.Tie as tie
@@ -29,7 +29,7 @@ returns : tie.Need-returns
 unfolding radix mapDigit perByte
 returns c =
     let start = c .before .before .before .before .before .args in
-    let codes = codes-of-bytes (start .bot) (start .ram .now) (start .k .0) _ _ (start .code) (c .before .before .map-byte .ensures) (c .before .before .before .before .before .pre .1 .0) (omega (arith, c .before .before .before .before .before .pre .1)) (rw (c .before .before .before .both .ensures) at (c .before .bytes-alike .ensures .1 .0)) in
+    let codes = codes-of-bytes (start .bot) (start .ram .now) (start .k .0) _ _ (start .code) (byte-at (c .before .before .map-byte .ensures)) (c .before .before .before .before .before .pre .1 .0) (omega (arith, c .before .before .before .before .before .pre .1)) (rw (c .before .before .before .both .ensures) at (c .before .bytes-alike .ensures .1 .0)) in
     (omega arith, (λ j l u. codes j l (omega arith), λ h. absurd (omega arith)))
 
 further-requires : tie.Need-further-requires
@@ -46,7 +46,7 @@ returns-2 : tie.Need-returns-2
 unfolding radix mapDigit perByte
 returns-2 c =
     let start = c .before .before .before .before .before .before .before .before .args in
-    let codes = codes-of-bytes (start .bot) (start .ram .now) (start .k .0) _ _ (start .code) (c .before .before .before .before .before .map-byte .ensures) (c .before .before .before .before .before .before .before .before .pre .1 .0) (omega (arith, c .before .before .before .before .before .before .before .before .pre .1)) (rw (c .before .before .before .before .before .before .both .ensures) at (c .before .before .before .before .bytes-alike .ensures .1 .0)) in
+    let codes = codes-of-bytes (start .bot) (start .ram .now) (start .k .0) _ _ (start .code) (byte-at (c .before .before .before .before .before .map-byte .ensures)) (c .before .before .before .before .before .before .before .before .pre .1 .0) (omega (arith, c .before .before .before .before .before .before .before .before .pre .1)) (rw (c .before .before .before .before .before .before .both .ensures) at (c .before .before .before .before .bytes-alike .ensures .1 .0)) in
     (omega arith, (codes, λ h e. c .if2 .taken ((rw (c .before .before .further .ensures) at (c .before .even-code .ensures)) ∙ e)))
 
 add-result : tie.Need-add-result
@@ -60,14 +60,14 @@ returns-3 c =
     let k = c .before .before .before .before .before .before .before .before .args .k .0 in
     let code = c .before .before .before .before .before .before .before .before .args .code in
     let bytes = c .before .before .before .before .bytes-alike .result in
-    let codes = codes-of-bytes bot ram k _ _ code (c .before .before .before .before .before .map-byte .ensures) (c .before .before .before .before .before .before .before .before .pre .1 .0) (omega (arith, c .before .before .before .before .before .before .before .before .pre .1)) (rw (c .before .before .before .before .before .before .both .ensures) at (c .before .before .before .before .bytes-alike .ensures .1 .0)) in
+    let codes = codes-of-bytes bot ram k _ _ code (byte-at (c .before .before .before .before .before .map-byte .ensures)) (c .before .before .before .before .before .before .before .before .pre .1 .0) (omega (arith, c .before .before .before .before .before .before .before .before .pre .1)) (rw (c .before .before .before .before .before .before .both .ensures) at (c .before .before .before .before .bytes-alike .ensures .1 .0)) in
     let here : codeOf (mapAt bot) ram (k + bytes * 2) ≡ code = sym (rw (c .before .before .further .ensures) at (c .before .even-code .ensures)) ∙ c .if2 .left in
     let next : k + (bytes * 2 + 1) ≡ k + bytes * 2 + 1 = omega arith in (
       omega arith,
       (
         λ j l u. elim (ℕ-discrete j (k + bytes * 2)) [ yes e ↦ rw e here | no d ↦ codes j l (omega arith) ],
         λ h. rw next
-            (codes-differ bot ram (k + bytes * 2) (c .before .before .before .before .before .map-byte .result .0 + bytes) (omega (arith, c .before .before .before .before .before .map-byte .ensures, c .before .before .before .before .before .before .before .before .pre .1)) (omega (arith, c .before .before .before .before .before .before .before .before .pre .1)) code
+            (codes-differ bot ram (k + bytes * 2) (c .before .before .before .before .before .map-byte .result .0 + bytes) (omega (arith, byte-at (c .before .before .before .before .before .map-byte .ensures), c .before .before .before .before .before .before .before .before .pre .1)) (omega (arith, c .before .before .before .before .before .before .before .before .pre .1)) code
             (c .before .before .before .before .before .before .before .shared-slice-known .given (c .before .before .before .before .before .map-byte .result .0 + bytes) .fits) (rw (c .before .before .before .before .before .before .both .ensures) at (c .before .before .before .before .bytes-alike .ensures .1 .1 (omega arith))) here),
       ),
     )

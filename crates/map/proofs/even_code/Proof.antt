@@ -1,6 +1,6 @@
 -- `map::even_code` meets its contract. Assumes nothing.
 use Rattle.rules.specs.Memory.{mapDigit, perByte}
-use Rattle.map.proofs.Halves.{low-half}
+use Rattle.map.proofs.Halves.{byte-at, low-half}
 use borrow.Author.Needs.{needs}
 use Rattle.map.proofs.even_code.Statement.{statement}
 use Rattle.map.proofs.even_code.Tie as tie
@@ -16,7 +16,7 @@ shared-slice-read-result c = search needs
 
 returns : tie.Need-returns
 unfolding mapDigit perByte
-returns c = low-half _ _ _ _ (c .before .before .map-byte .ensures) (c .before .before .before .before .pre .1 .1)
+returns c = low-half _ _ _ _ (byte-at (c .before .before .map-byte .ensures)) (c .before .before .before .before .pre .1 .1)
 
 pub even-code-spec : {M : Type 1} → statement M
 even-code-spec = tie.close (tie.spec map-byte-requires cast-result shared-slice-read-result returns)

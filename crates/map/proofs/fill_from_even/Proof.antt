@@ -4,6 +4,7 @@ use mathlib.Core.Path.{_∙_}
 use native.Mathlib.Omega.{arith}
 use lib.ListN.{replicate}
 use Rattle.rules.specs.Memory.{radix, dividedUp, mapByte, mapDigit, mapBytesFor, perByte}
+use Rattle.map.proofs.Halves.{byte-at}
 use Rattle.map.proofs.Runs.{from-even, run-even, run-odd}
 use borrow.Author.Needs.{needs}
 use Rattle.map.proofs.fill_from_even.Statement.{statement}
@@ -22,7 +23,7 @@ same-length c = search needs
 
 returns : tie.Need-returns
 unfolding perByte
-returns c = c .before .before .before .fill-bytes .ensures ∙ from-even _ _ _ _ _ (c .before .before .before .before .before .map-byte .ensures) (c .before .before .before .before .before .before .before .pre .1 .0) ∙ run-even _ _ _ _ _ (c .if1 .taken)
+returns c = c .before .before .before .fill-bytes .ensures ∙ from-even _ _ _ _ _ (byte-at (c .before .before .before .before .before .map-byte .ensures)) (c .before .before .before .before .before .before .before .pre .1 .0) ∙ run-even _ _ _ _ _ (c .if1 .taken)
 
 sub-further : tie.Need-sub-further
 sub-further c = search needs
@@ -42,7 +43,7 @@ returns-2 : tie.Need-returns-2
 unfolding perByte
 returns-2 c =
     let start = c .before .before .before .before .before .before .before .before .before .before .before .before .args in
-    let even = from-even _ (start .bot) (start .ram .now) (start .k .0) (replicate (start .n / 2 * 2) (start .code)) (c .before .before .before .before .before .before .before .before .before .before .map-byte .ensures) (c .before .before .before .before .before .before .before .before .before .before .before .before .pre .1 .0) in
+    let even = from-even _ (start .bot) (start .ram .now) (start .k .0) (replicate (start .n / 2 * 2) (start .code)) (byte-at (c .before .before .before .before .before .before .before .before .before .before .map-byte .ensures)) (c .before .before .before .before .before .before .before .before .before .before .before .before .pre .1 .0) in
     (rw (c .before .before .before .further .ensures, c .before .before .before .before .before .before .before .before .fill-bytes .ensures, even) at (c .before .before .set-even .ensures)) ∙ run-odd _ _ _ _ _ (c .before .before .before .before .before .if1 .left)
 
 pub fill-from-even-spec : {M : Type 1} → statement M

@@ -1,7 +1,7 @@
 -- `map::set_even` meets its contract. Assumes nothing.
 use native.Mathlib.Omega.{arith}
 use Rattle.rules.specs.Memory.{radix, mapDigit, perByte}
-use Rattle.map.proofs.Halves.{set-low}
+use Rattle.map.proofs.Halves.{byte-at, set-low}
 use borrow.Author.Needs.{needs}
 use Rattle.map.proofs.set_even.Statement.{statement}
 use Rattle.map.proofs.set_even.Tie as tie
@@ -34,7 +34,7 @@ same-length c = search needs
 
 returns : tie.Need-returns
 unfolding mapDigit perByte
-returns c = set-low _ _ _ _ (c .before .before .before .map-byte .ensures) _ (c .before .before .before .before .before .pre .1 .1 .0)
+returns c = set-low _ _ _ _ (byte-at (c .before .before .before .map-byte .ensures)) _ (c .before .before .before .before .before .pre .1 .1 .0)
 
 pub set-even-spec : {M : Type 1} → statement M
 set-even-spec = tie.close (tie.spec map-byte-requires cast-byte slice-read-byte mul-ram add-ram cast-ram slice-write-ram same-length returns)

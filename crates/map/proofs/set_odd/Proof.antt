@@ -1,7 +1,7 @@
 -- `map::set_odd` meets its contract. Assumes nothing.
 use native.Mathlib.Omega.{arith}
 use Rattle.rules.specs.Memory.{radix, mapDigit, perByte}
-use Rattle.map.proofs.Halves.{set-high}
+use Rattle.map.proofs.Halves.{byte-at, set-high}
 use borrow.Author.Needs.{needs}
 use Rattle.map.proofs.set_odd.Statement.{statement}
 use Rattle.map.proofs.set_odd.Tie as tie
@@ -34,7 +34,7 @@ same-length c = search needs
 
 returns : tie.Need-returns
 unfolding mapDigit perByte
-returns c = set-high _ _ _ _ (c .before .before .before .map-byte .ensures) _ (c .before .before .before .before .before .pre .1 .1 .0) (c .before .slice-known2 .given (c .before .before .before .map-byte .result .0) .fits)
+returns c = set-high _ _ _ _ (byte-at (c .before .before .before .map-byte .ensures)) _ (c .before .before .before .before .before .pre .1 .1 .0) (c .before .slice-known2 .given (c .before .before .before .map-byte .result .0) .fits)
 
 pub set-odd-spec : {M : Type 1} → statement M
 set-odd-spec = tie.close (tie.spec map-byte-requires cast-byte slice-read-byte mul-ram add-ram cast-ram slice-write-ram same-length returns)
