@@ -1,9 +1,11 @@
 // Document 02, Ask 1: set-up and the six operations, callable from C on numbers and byte slices. The state sits in a slot of 48 bytes.
 ghost use mathlib.Core.Path.{_≡_};
 ghost use Rattle.rules.specs.Code.{flashWord};
-ghost use Rattle.rules.specs.State.{ramByte};
-ghost use Rattle.rules.specs.Slot.{GivesToC, wrongSize, cSetUpOf, cStoreOf, cCallOf, cReturnOf, cMallocOf, cFreeOf, cChangeOf};
-ghost use Rattle.laws.proofs.ToC.{Judged};
+ghost use mathlib.Core.Bool.{not};
+ghost use lib.ListN.{length};
+ghost use Rattle.rules.specs.State.{ramByte, goodState};
+ghost use Rattle.rules.specs.Slot.{slotBytes, stateIn, GivesToC, wrongSize, cSetUpOf, cStoreOf, cCallOf, cReturnOf, cMallocOf, cFreeOf, cChangeOf};
+ghost use Rattle.hmt_c.specs.Step.{Before};
 use rules::Refusal;
 
 mod answer;
@@ -37,9 +39,10 @@ fn wrong_size(ram: &[u8], slot: &[u8]) -> bool
     ram.len() != RAM_BYTES
 }
 
-// The step with which every operation begins: the lengths, byte 47 and the state; the refusal that they give, 0 for none.
-fn judged(ram: &[u8], slot: &[u8]) -> u32
-    ensures { λ r. ⌜ Judged (now (slot .entry)) (now (ram .entry)) r ⌝ }
+// The step with which every operation begins, in two parts, so that each is compiled into its caller: the lengths and byte 47, with the refusal
+// that they give, 0 for none;
+fn refusal_before(ram: &[u8], slot: &[u8]) -> u32
+    ensures { λ r. ⌜ Before (now (slot .entry)) (now (ram .entry)) r ⌝ }
 {
     if wrong_size(ram, slot) {
         return refused(Refusal::WrongSize);
@@ -47,13 +50,18 @@ fn judged(ram: &[u8], slot: &[u8]) -> u32
     if slot[slot::ZERO] != 0 {
         return refused(Refusal::BadState);
     }
+    0
+}
+
+// and whether the state is not good.
+fn unfit(slot: &[u8]) -> bool
+    requires { ⌜ length (now slot) ≡ slotBytes ⌝ }
+    ensures { λ r. ⌜ r ≡ not (goodState (stateIn (now (slot .entry)))) ⌝ }
+{
     if slot::usual(slot) {
-        return 0;
+        return false;
     }
-    if slot::good_state(slot) {
-        return 0;
-    }
-    refused(Refusal::BadState)
+    !slot::good_state(slot)
 }
 
 #[no_mangle]
@@ -74,9 +82,12 @@ pub extern "C" fn hmt_set_up(ram: &mut [u8], slot: &mut [u8]) -> u32
 pub extern "C" fn hmt_store(ram: &mut [u8], slot: &mut [u8], address: u16, byte: u8) -> u32
     ensures { λ r. ⌜ GivesToC r (now (slot .exit)) (now (ram .exit)) (cStoreOf (now (slot .entry)) (now (ram .entry)) (ramByte address) byte) ⌝ }
 {
-    let refusal = judged(ram, slot);
+    let refusal = refusal_before(ram, slot);
     if refusal != 0 {
         return refusal;
+    }
+    if unfit(slot) {
+        return refused(Refusal::BadState);
     }
     let outcome = operations::store(state_in(slot), ram, ram_byte(address), byte);
     let given = outcome.answer;
@@ -97,9 +108,12 @@ pub extern "C" fn hmt_call(
     if table.len() != TABLE_BYTES {
         return refused(Refusal::WrongSize);
     }
-    let refusal = judged(ram, slot);
+    let refusal = refusal_before(ram, slot);
     if refusal != 0 {
         return refusal;
+    }
+    if unfit(slot) {
+        return refused(Refusal::BadState);
     }
     let state = state_in(slot);
     let at = table_word(state.config.jt, flash_word(target));
@@ -123,9 +137,12 @@ pub extern "C" fn hmt_call(
 pub extern "C" fn hmt_return(ram: &mut [u8], slot: &mut [u8]) -> u32
     ensures { λ r. ⌜ GivesToC r (now (slot .exit)) (now (ram .exit)) (cReturnOf (now (slot .entry)) (now (ram .entry))) ⌝ }
 {
-    let refusal = judged(ram, slot);
+    let refusal = refusal_before(ram, slot);
     if refusal != 0 {
         return refusal;
+    }
+    if unfit(slot) {
+        return refused(Refusal::BadState);
     }
     let state = state_in(slot);
     if state.safepointer.0 == state.config.safe.0 {
@@ -141,9 +158,12 @@ pub extern "C" fn hmt_return(ram: &mut [u8], slot: &mut [u8]) -> u32
 pub extern "C" fn hmt_malloc(ram: &mut [u8], slot: &mut [u8], size: u16) -> u32
     ensures { λ r. ⌜ GivesToC r (now (slot .exit)) (now (ram .exit)) (cMallocOf (now (slot .entry)) (now (ram .entry)) size) ⌝ }
 {
-    let refusal = judged(ram, slot);
+    let refusal = refusal_before(ram, slot);
     if refusal != 0 {
         return refusal;
+    }
+    if unfit(slot) {
+        return refused(Refusal::BadState);
     }
     let outcome = operations::malloc(state_in(slot), ram, size);
     let given = outcome.answer;
@@ -154,9 +174,12 @@ pub extern "C" fn hmt_malloc(ram: &mut [u8], slot: &mut [u8], size: u16) -> u32
 pub extern "C" fn hmt_free(ram: &mut [u8], slot: &mut [u8], address: u16) -> u32
     ensures { λ r. ⌜ GivesToC r (now (slot .exit)) (now (ram .exit)) (cFreeOf (now (slot .entry)) (now (ram .entry)) (ramByte address)) ⌝ }
 {
-    let refusal = judged(ram, slot);
+    let refusal = refusal_before(ram, slot);
     if refusal != 0 {
         return refusal;
+    }
+    if unfit(slot) {
+        return refused(Refusal::BadState);
     }
     let outcome = operations::free(state_in(slot), ram, ram_byte(address));
     let given = outcome.answer;
@@ -167,9 +190,12 @@ pub extern "C" fn hmt_free(ram: &mut [u8], slot: &mut [u8], address: u16) -> u32
 pub extern "C" fn hmt_change(ram: &mut [u8], slot: &mut [u8], address: u16, domain: u8) -> u32
     ensures { λ r. ⌜ GivesToC r (now (slot .exit)) (now (ram .exit)) (cChangeOf (now (slot .entry)) (now (ram .entry)) (ramByte address) domain) ⌝ }
 {
-    let refusal = judged(ram, slot);
+    let refusal = refusal_before(ram, slot);
     if refusal != 0 {
         return refusal;
+    }
+    if unfit(slot) {
+        return refused(Refusal::BadState);
     }
     let outcome = operations::change(state_in(slot), ram, ram_byte(address), domain);
     let given = outcome.answer;

@@ -8,20 +8,25 @@ use Rattle.rules.specs.declared.Operation.the-variants.{Free}
 use Rattle.rules.specs.Memory.{ramBytes}
 use Rattle.rules.specs.State.{ramByte}
 use Rattle.rules.specs.Slot.{slotBytes}
+use Rattle.hmt_c.specs.Step.{Sized}
+use Rattle.hmt_c.proofs.Step.{fit, not-fit}
 use Rattle.laws.proofs.ToC.{Ready, right-size, kept-to-c}
 use borrow.Author.Needs.{needs}
 use Rattle.hmt_c.proofs.hmt_free.Statement.{statement}
 use Rattle.hmt_c.proofs.hmt_free.Tie as tie
 
 -- past the step with which every operation begins
-ready : (c : tie.Else1) → Ready (now (c .before .before .before .before .before .before .args .slot)) (now (c .before .before .before .before .before .before .args .ram))
-ready c = c .before .judged .ensures .none (c .if1 .left)
+sized : (c : tie.Else1) → Sized (now (c .before .before .before .before .before .before .args .slot)) (now (c .before .before .before .before .before .before .args .ram))
+sized c = c .before .refusal-before .ensures .none (c .if1 .left)
 
-sizes : (c : tie.Else1) → (length (now (c .before .before .before .before .before .before .args .slot)) ≡ slotBytes) × (length (now (c .before .before .before .before .before .before .args .ram)) ≡ ramBytes)
-sizes c = right-size (now (c .before .before .before .before .before .before .args .slot)) (now (c .before .before .before .before .before .before .args .ram)) (ready c .sizes)
+ready : (c : tie.Else2) → Ready (now (c .before .before .before .before .before .before .before .before .before .args .slot)) (now (c .before .before .before .before .before .before .before .before .before .args .ram))
+ready c = fit (now (c .before .before .before .before .before .before .before .before .before .args .slot)) (now (c .before .before .before .before .before .before .before .before .before .args .ram)) (sized (c .before .before .before)) (c .before .unfit .ensures) (c .if2 .left)
 
-judged-requires : tie.Need-judged-requires
-judged-requires c κs = search needs
+sizes : (c : tie.Else2) → (length (now (c .before .before .before .before .before .before .before .before .before .args .slot)) ≡ slotBytes) × (length (now (c .before .before .before .before .before .before .before .before .before .args .ram)) ≡ ramBytes)
+sizes c = right-size (now (c .before .before .before .before .before .before .before .before .before .args .slot)) (now (c .before .before .before .before .before .before .before .before .before .args .ram)) (ready c .sizes)
+
+refusal-before-requires : tie.Need-refusal-before-requires
+refusal-before-requires c κs = search needs
 
 same-length : tie.Need-same-length
 same-length c = search needs
@@ -30,7 +35,24 @@ same-length-2 : tie.Need-same-length-2
 same-length-2 c = search needs
 
 returns : tie.Need-returns
-returns c = let args = c .before .before .before .before .before .before .args in c .before .judged .ensures .some (c .if1 .taken) [] (Free (ramByte (args .address))) refl
+returns c = let args = c .before .before .before .before .before .before .args in c .before .refusal-before .ensures .some (c .if1 .taken) [] (Free (ramByte (args .address))) refl
+
+unfit-requires : tie.Need-unfit-requires
+unfit-requires c κs = let args = c .before .before .before .before .before .before .before .args in right-size (now (args .slot)) (now (args .ram)) (sized (c .before) .sizes) .0
+
+refused-requires : tie.Need-refused-requires
+refused-requires c κs = search needs
+
+same-length-3 : tie.Need-same-length-3
+same-length-3 c = search needs
+
+same-length-4 : tie.Need-same-length-4
+same-length-4 c = search needs
+
+returns-2 : tie.Need-returns-2
+returns-2 c =
+    let args = c .before .before .before .before .before .before .before .before .before .before .args in
+    not-fit (now (args .slot)) (now (args .ram)) (sized (c .before .before .before .before)) (c .before .before .unfit .ensures) (c .before .if2 .taken) _ (c .refused .ensures) [] (Free (ramByte (args .address))) refl
 
 state-in-requires : tie.Need-state-in-requires
 state-in-requires c κs = sizes (c .before) .0
@@ -44,30 +66,35 @@ free-requires c κs = (sizes (c .before .before .before .before) .1, rw (c .befo
 packed-requires : tie.Need-packed-requires
 packed-requires c κs = search needs
 
-same-length-3 : tie.Need-same-length-3
-same-length-3 c = search needs
+same-length-5 : tie.Need-same-length-5
+same-length-5 c = search needs
 
-same-length-4 : tie.Need-same-length-4
-same-length-4 c = search needs
+same-length-6 : tie.Need-same-length-6
+same-length-6 c = search needs
 
-returns-2 : tie.Need-returns-2
-returns-2 c =
-    let args = c .before .before .before .before .before .before .before .before .before .before .before .before .before .before .args in
-    kept-to-c (now (args .slot)) (now (args .ram)) [] (Free (ramByte (args .address))) (λ i. omega (arith, c .before .before .before .before .before .before .before .before .before .before .before .before .slice-known2 .given i)) refl (ready (c .before .before .before .before .before .before .before .before))
+returns-3 : tie.Need-returns-3
+returns-3 c =
+    let args = c .before .before .before .before .before .before .before .before .before .before .before .before .before .before .before .before .before .args in
+    kept-to-c (now (args .slot)) (now (args .ram)) [] (Free (ramByte (args .address))) (λ i. omega (arith, c .before .before .before .before .before .before .before .before .before .before .before .before .before .before .before .slice-known2 .given i)) refl (ready (c .before .before .before .before .before .before .before .before))
     _ (c .before .before .before .free .result) (c .packed .result) refl (rw (c .before .before .before .before .before .before .state-in .ensures, c .before .before .before .before .ram-byte .ensures) at (c .before .before .before .free .ensures)) (c .packed .ensures)
 
 pub hmt-free-spec : {M : Type 1} → statement M
 hmt-free-spec =
     tie.close
     (tie.spec
-    judged-requires
+    refusal-before-requires
     same-length
     same-length-2
     returns
+    unfit-requires
+    refused-requires
+    same-length-3
+    same-length-4
+    returns-2
     state-in-requires
     ram-byte-requires
     free-requires
     packed-requires
-    same-length-3
-    same-length-4
-    returns-2)
+    same-length-5
+    same-length-6
+    returns-3)

@@ -20,7 +20,7 @@ map-byte-requires c κs = omega arith
 
 bytes-alike-requires : tie.Need-bytes-alike-requires
 unfolding mapByte mapDigit mapBytesFor dividedUp perByte
-bytes-alike-requires c κs = (c .before .before .before .pre .0, omega (arith, c .before .before .before .pre .1))
+bytes-alike-requires c κs = (c .before .before .before .pre .0, omega (arith, byte-at (c .map-byte .ensures), c .before .before .before .pre .1))
 
 mul-alike : tie.Need-mul-alike
 mul-alike c = search needs

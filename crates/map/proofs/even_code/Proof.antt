@@ -1,4 +1,5 @@
 -- `map::even_code` meets its contract. Assumes nothing.
+use native.Mathlib.Omega.{arith}
 use Rattle.rules.specs.Memory.{mapDigit, perByte}
 use Rattle.map.proofs.Halves.{byte-at, low-half}
 use borrow.Author.Needs.{needs}
@@ -12,7 +13,7 @@ cast-result : tie.Need-cast-result
 cast-result c = search needs
 
 shared-slice-read-result : tie.Need-shared-slice-read-result
-shared-slice-read-result c = search needs
+shared-slice-read-result c = omega (arith, byte-at (c .before .before .map-byte .ensures), c .before .before .before .before .pre)
 
 returns : tie.Need-returns
 unfolding mapDigit perByte

@@ -16,7 +16,7 @@ map-byte-requires c κs = omega arith
 
 fill-bytes-requires : tie.Need-fill-bytes-requires
 unfolding mapByte mapDigit mapBytesFor dividedUp radix perByte
-fill-bytes-requires c κs = (c .before .before .before .pre .0, (omega (arith, c .before .before .before .pre .1), c .before .before .before .pre .1 .1 .1))
+fill-bytes-requires c κs = (c .before .before .before .pre .0, (omega (arith, byte-at (c .before .map-byte .ensures), c .before .before .before .pre .1), c .before .before .before .pre .1 .1 .1))
 
 same-length : tie.Need-same-length
 same-length c = search needs

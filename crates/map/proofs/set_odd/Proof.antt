@@ -13,7 +13,7 @@ cast-byte : tie.Need-cast-byte
 cast-byte c = search needs
 
 slice-read-byte : tie.Need-slice-read-byte
-slice-read-byte c = search needs
+slice-read-byte c = omega (arith, byte-at (c .before .before .map-byte .ensures), c .before .before .before .before .pre)
 
 mul-ram : tie.Need-mul-ram
 unfolding radix
@@ -27,7 +27,7 @@ cast-ram : tie.Need-cast-ram
 cast-ram c = search needs
 
 slice-write-ram : tie.Need-slice-write-ram
-slice-write-ram c = search needs
+slice-write-ram c = omega (arith, byte-at (c .before .before .before .map-byte .ensures), c .before .before .before .before .before .pre)
 
 same-length : tie.Need-same-length
 same-length c = search needs

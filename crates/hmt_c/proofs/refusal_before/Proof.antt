@@ -1,0 +1,57 @@
+-- `hmt_c::refusal_before` meets its contract. Assumes nothing.
+use mathlib.Core.Path.{_≡_, sym, _∙_}
+use mathlib.Core.Bool.{false}
+use mathlib.Core.List.{List}
+use native.Mathlib.Omega.{arith}
+use denote.Ref.{now}
+use Rattle.rules.specs.Slot.{wrongSize}
+use Rattle.laws.proofs.ToC.{right-size, judged-size, judged-zero}
+use borrow.Author.Needs.{needs}
+use Rattle.hmt_c.proofs.refusal_before.Statement.{statement}
+use Rattle.hmt_c.proofs.refusal_before.Tie as tie
+
+-- past the first test both lengths are right
+sizes : (c : tie.Else1) → wrongSize (now (c .before .before .before .before .args .slot)) (now (c .before .before .before .before .args .ram)) ≡ false
+sizes c = sym (c .before .wrong-size .ensures) ∙ c .if1 .left
+
+wrong-size-requires : tie.Need-wrong-size-requires
+wrong-size-requires c κs = search needs
+
+refused-requires : tie.Need-refused-requires
+refused-requires c κs = search needs
+
+returns : tie.Need-returns
+returns c =
+    record {
+      none = λ z. absurd (omega (arith, c .refused .ensures));
+      some = judged-size _ _ _ (sym (c .before .before .wrong-size .ensures) ∙ c .before .if1 .taken) (c .refused .ensures) .some;
+    }
+
+shared-slice-read-if2 : tie.Need-shared-slice-read-if2
+shared-slice-read-if2 c =
+    let args = c .before .before .before .before .before .args in omega (arith, right-size (now (args .slot)) (now (args .ram)) (sizes (c .before)) .0)
+
+refused-requires-2 : tie.Need-refused-requires-2
+refused-requires-2 c κs = search needs
+
+returns-2 : tie.Need-returns-2
+returns-2 c =
+    record {
+      none = λ z. absurd (omega (arith, c .refused2 .ensures));
+      some = judged-zero _ _ _ (sizes (c .before .before .before)) (c .before .if2 .taken) (c .refused2 .ensures) .some;
+    }
+
+returns-3 : tie.Need-returns-3
+returns-3 c = record { none = λ _. record { sizes = sizes (c .before .before); zero = c .if2 .left }; some = λ n. absurd (n (omega arith)) }
+
+pub refusal-before-spec : {M : Type 1} → statement M
+refusal-before-spec =
+    tie.close
+    (tie.spec
+    wrong-size-requires
+    refused-requires
+    returns
+    shared-slice-read-if2
+    refused-requires-2
+    returns-2
+    returns-3)

@@ -1,0 +1,2 @@
+-- What the tests before an operation show.
+pub mod Step
