@@ -93,7 +93,11 @@ pub fn call_with(
                 return Outcome { answer, state };
             }
             let bound = state.bound;
-            frames::push(&mut ram[safe..top], used, Frame::Cross(site, bound, state.domain));
+            frames::push(
+                &mut ram[safe..top],
+                used,
+                Frame::Cross(site, bound, state.domain),
+            );
             state.domain = call_check::called_domain(config, target);
             state.bound = pointer;
             state.safepointer = address::above(state.safepointer, frames::CROSS_BYTES);
