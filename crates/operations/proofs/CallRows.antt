@@ -20,7 +20,7 @@ use Rattle.rules.specs.Call.{frameBytes, frameOf, pointerOutside, isCross, call
 use Rattle.rules.specs.Operations.{lending, wrongLent, callOf}
 use Rattle.laws.proofs.Tests.{byTest, right-false}
 use Rattle.laws.proofs.Answers.{row-passed}
-use Rattle.operations.specs.CallRows.{tableOf}
+use Rattle.operations.specs.CallRows.{tableOf, localRows, crossRows}
 
 -- ---- a table that has one word everywhere
 
@@ -56,6 +56,15 @@ module _ (s : State) (n : ℕ) where
 
   pub fits-below : suc n ≤ s .config .top .0 - s .safepointer .0 → ltb (s .config .top .0) (s .safepointer .0 + suc n) ≡ false
   fits-below h = le-ltb (s .config .top .0) (s .safepointer .0 + suc n) (omega arith)
+
+-- ---- the rows below that of every call
+
+module _ (s : State) (table : List ℕ) (t site : FlashWord) (p : RamByte) (from : goodSite (s .config) (s .domain) site ≡ true) where
+  pub local-rest : t .0 < s .config .jt .0 → localRows s t ≡ callRows s table t site p
+  local-rest h = rw (from, lt-ltb (t .0) (s .config .jt .0) h)
+
+  pub cross-rest : s .config .jt .0 ≤ t .0 → crossRows s table t p ≡ callRows s table t site p
+  cross-rest h = rw (from, le-ltb (t .0) (s .config .jt .0) h)
 
 -- ---- where a call is done
 

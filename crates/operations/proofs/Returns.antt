@@ -1,6 +1,6 @@
 -- Return: the frame that is read, the frame with its damage told, and what a return gives.
 -- Assumes nothing.
-use Prim.Native.Nat.{ℕ, _+_, _-_, _≤_}
+use Prim.Native.Nat.{ℕ, _+_, _-_, _<_, _≤_}
 use mathlib.Core.Path.{_≡_, refl}
 use mathlib.Core.Bool.{Bool, true, false, cond}
 use mathlib.Core.List.{List}
@@ -8,7 +8,7 @@ use native.Mathlib.Omega.{arith}
 use lib.ListN.{length, getD, take}
 use lib.Dec.{eqb, leb, ltb}
 use lib.Seq.{slice, length-slice}
-use borrow.Author.Tests.{eq-eqb, ltb-false, leb-true}
+use borrow.Author.Tests.{eq-eqb, ne-eqb, ltb-false, leb-true}
 use Rattle.rules.specs.declared.RamByte.{RamByte}
 use Rattle.rules.specs.declared.FlashWord.{FlashWord}
 use Rattle.rules.specs.declared.State.{State}
@@ -18,9 +18,9 @@ use Rattle.rules.specs.declared.Operation.the-variants.{Return}
 use Rattle.rules.specs.declared.Outcome.{Outcome}
 use Rattle.rules.specs.declared.Answer.{Answer}
 use Rattle.rules.specs.declared.Answer.the-variants.{Done, Refused}
-use Rattle.rules.specs.declared.Refusal.the-variants.{NoFrame}
+use Rattle.rules.specs.declared.Refusal.the-variants.{NoFrame, DamagedFrame}
 use Rattle.rules.specs.Memory.{ramBytes, trusted}
-use Rattle.rules.specs.State.{goodState}
+use Rattle.rules.specs.State.{ramByte, goodState, running}
 use Rattle.rules.specs.Answers.{Gives, give}
 use Rattle.rules.specs.Call.{localTag, frameBytes}
 use Rattle.rules.specs.Return.{readFrame, topFrame, damaged, returnRows, returned}
@@ -28,7 +28,7 @@ use Rattle.rules.specs.Operations.{nothing, returnOf}
 use Rattle.laws.proofs.Good.{goodState-facts, domain≤trusted}
 use Rattle.laws.proofs.Operations.{gives-below}
 use Rattle.laws.proofs.Parts.{take-part}
-use Rattle.operations.specs.ReturnRows.{callerOf, handed, returning}
+use Rattle.operations.specs.ReturnRows.{callerOf, judged, handed, returning}
 use Rattle.operations.proofs.Gives.{refused}
 use Rattle.operations.proofs.SafeStack.{Area, lent}
 
@@ -74,17 +74,44 @@ frame-read s ram a =
 
 -- ---- the frame with its damage told
 
-pub kept-local : (t : Bool) (f : Frame) (w : FlashWord) → cond t Damage f ≡ Local w → (t ≡ false) × (f ≡ Local w)
+kept-local : (t : Bool) (f : Frame) (w : FlashWord) → cond t Damage f ≡ Local w → (t ≡ false) × (f ≡ Local w)
 kept-local true f w h = absurd (let z : _≡_ {A = ℕ} 0 1 = cc in omega arith)
 kept-local false f w h = (refl, h)
 
-pub kept-cross : (t : Bool) (f : Frame) (w : FlashWord) (b : RamByte) (d : ℕ) → cond t Damage f ≡ Cross w b d → (t ≡ false) × (f ≡ Cross w b d)
+kept-cross : (t : Bool) (f : Frame) (w : FlashWord) (b : RamByte) (d : ℕ) → cond t Damage f ≡ Cross w b d → (t ≡ false) × (f ≡ Cross w b d)
 kept-cross true f w b d h = absurd (let z : _≡_ {A = ℕ} 0 1 = cc in omega arith)
 kept-cross false f w b d h = (refl, h)
 
-pub told-damage : (s : State) (f : Frame) (t : Bool) → damaged s f ≡ t → cond t Damage f ≡ Damage → damaged s f ≡ true
+told-damage : (s : State) (f : Frame) (t : Bool) → damaged s f ≡ t → cond t Damage f ≡ Damage → damaged s f ≡ true
 told-damage s f true e h = e
 told-damage s f false e h = rw h
+
+-- ---- what is handed back for it
+
+module _ (s : State) (f : Frame) where
+  module _ (w : FlashWord) (h : judged s f ≡ Local w) where
+    pub local-below : length (frameBytes f) ≤ s .safepointer .0 → 3 ≤ s .safepointer .0
+    local-below fits = rw (kept-local (damaged s f) f w h .1) at fits
+
+    pub local-back : s .config .safe .0 < s .safepointer .0 → (pointer : RamByte) → pointer ≡ ramByte (s .safepointer .0 - 3)
+        → record { answer = Done (w .0); state = running s (s .domain) (s .bound) pointer } ≡ returning s f
+    local-back some pointer p =
+        let (t, e) = kept-local (damaged s f) f w h in
+        rw (ne-eqb (s .safepointer .0) (s .config .safe .0) (omega arith), t, e, p)
+
+  module _ (w : FlashWord) (b : RamByte) (d : ℕ) (h : judged s f ≡ Cross w b d) where
+    pub cross-below : length (frameBytes f) ≤ s .safepointer .0 → 5 ≤ s .safepointer .0
+    cross-below fits = rw (kept-cross (damaged s f) f w b d h .1) at fits
+
+    pub cross-back : s .config .safe .0 < s .safepointer .0 → (pointer : RamByte) → pointer ≡ ramByte (s .safepointer .0 - 5)
+        → record { answer = Done (w .0); state = running s d b pointer } ≡ returning s f
+    cross-back some pointer p =
+        let (t, e) = kept-cross (damaged s f) f w b d h in
+        rw (ne-eqb (s .safepointer .0) (s .config .safe .0) (omega arith), t, e, p)
+
+  pub damage-back : s .config .safe .0 < s .safepointer .0 → judged s f ≡ Damage → record { answer = Refused DamagedFrame; state = s } ≡ returning s f
+  damage-back some h =
+      rw (ne-eqb (s .safepointer .0) (s .config .safe .0) (omega arith), told-damage s f (damaged s f) refl h)
 
 -- ---- what a return gives
 
