@@ -1,5 +1,4 @@
--- Code in rising order, the trusted code before or after it, is ordered and apart: what the one pass of `all_good` relies on, and
--- that of hmt_c over a slot.
+-- Code in rising order, the trusted code before or after it, is ordered and apart: what the one pass of hmt_c over a slot relies on.
 -- Assumes nothing.
 use Prim.Native.Nat.{ℕ, _+_, _≤_, _<_}
 use mathlib.Core.Path.{_≡_, refl, sym}

@@ -39,7 +39,7 @@ pub fn good_config(config: Config) -> bool
     if !good_bounds(config) {
         return false;
     }
-    ranges::all_good(config)
+    good_ranges(config)
 }
 
 // Section 4: domain, bound and safe pointer; the bound is below RAM's end when one is added to it.

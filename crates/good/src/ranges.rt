@@ -5,7 +5,6 @@ ghost use Prim.Native.Nat.{suc, _<_};
 ghost use lib.ListN.{drop};
 ghost use Rattle.rules.specs.Code.{domains, rangeOf, apart, apartFrom};
 ghost use Rattle.rules.specs.State.{rangesOrdered, rangesApart};
-use address::domains::TRUSTED;
 use rules::Config;
 use rules::Range;
 
@@ -79,39 +78,4 @@ pub fn in_any_order(config: Config) -> bool
         return false;
     }
     all_apart(config)
-}
-
-// Modules usually lie in rising order with the trusted code before or after them: one pass sees that, and only another order costs the
-// test of all pairs. An empty range below last ends below it, too, and so needs no test against jt.
-pub fn all_good(config: Config) -> bool
-    ensures { λ r. ⌜ r ≡ (rangesOrdered config && rangesApart config) ⌝ }
-{
-    let first = config.ranges[0].start.0;
-    let mut last = first;
-    let mut i: u8 = 0;
-    while i < TRUSTED {
-        let start = config.ranges[i as usize].start.0;
-        let end = config.ranges[i as usize].end.0;
-        if last <= start {
-            if end < start {
-                return false;
-            }
-            last = end;
-        } else if start != end {
-            return in_any_order(config);
-        }
-        i += 1;
-    }
-    let start = config.ranges[TRUSTED as usize].start.0;
-    let end = config.ranges[TRUSTED as usize].end.0;
-    if end < start {
-        return false;
-    }
-    if last <= start {
-        return end <= config.jt.0;
-    }
-    if first < end {
-        return in_any_order(config);
-    }
-    last <= config.jt.0
 }

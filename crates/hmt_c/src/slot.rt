@@ -59,7 +59,8 @@ const TRUSTED_END: usize = TRUSTED + 2;
 
 const JT_PLACE: usize = CONFIG + JT;
 
-// Code as it usually lies (see good::ranges::all_good), seen in the slot itself: modules rising, the trusted code before or after them.
+// Code as it usually lies, seen in one pass over the slot itself: modules in rising order, the trusted code before or after them. Only another order
+// costs the test of all pairs. An empty range below last ends below it, too, and so needs no test against jt.
 fn rising(slot: &[u8]) -> bool
     requires { ⌜ length (now slot) ≡ slotBytes ⌝ }
     ensures { λ r. ⌜ (r ≡ true → (rangesOrdered (configIn (now (slot .entry))) && rangesApart (configIn (now (slot .entry)))) ≡ true) ⌝ }

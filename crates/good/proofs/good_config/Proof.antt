@@ -12,11 +12,11 @@ good-bounds-requires c κs = search needs
 returns : tie.Need-returns
 returns c = not-bounds (c .before .before .args .config) (failed (c .before .good-bounds .ensures) (c .if1 .taken))
 
-all-good-requires : tie.Need-all-good-requires
-all-good-requires c κs = search needs
+good-ranges-requires : tie.Need-good-ranges-requires
+good-ranges-requires c κs = search needs
 
 returns-2 : tie.Need-returns-2
-returns-2 c = c .all-good .ensures ∙ ranges-decide _ (passed (c .before .before .good-bounds .ensures) (c .before .if1 .left))
+returns-2 c = c .good-ranges .ensures ∙ ranges-decide _ (passed (c .before .before .good-bounds .ensures) (c .before .if1 .left))
 
 pub good-config-spec : {M : Type 1} → statement M
-good-config-spec = tie.close (tie.spec good-bounds-requires returns all-good-requires returns-2)
+good-config-spec = tie.close (tie.spec good-bounds-requires returns good-ranges-requires returns-2)
