@@ -1,18 +1,14 @@
 -- Code in rising order, the trusted code before or after it, is ordered and apart: what the one pass of hmt_c over a slot relies on.
 -- Assumes nothing.
-use Prim.Native.Nat.{ℕ, _+_, _≤_, _<_}
-use mathlib.Core.Path.{_≡_, refl, sym}
-use mathlib.Core.Bool.{Bool, true, false, _&&_, or-true, false≢true}
+use Prim.Native.Nat.{ℕ, _≤_, _<_}
+use mathlib.Core.Path.{_≡_, refl}
+use mathlib.Core.Bool.{true, _&&_, or-true}
 use mathlib.Core.List.{List, [], _∷_}
 use native.Mathlib.Omega.{arith}
-use native.Mathlib.Numerals.{add-one}
-use lib.ListN.{length, getD, drop, drop-of-length-le}
-use lib.Seq.{drop-cons}
 use borrow.Author.Tests.{le-leb, eq-eqb}
 use Rattle.rules.specs.declared.FlashWord.{FlashWord}
 use Rattle.rules.specs.declared.Range.{Range}
-use Rattle.rules.specs.Memory.{trusted}
-use Rattle.rules.specs.Code.{domains, emptyRange, ordered, apartFrom, allApart}
+use Rattle.rules.specs.Code.{ordered, apartFrom, allApart}
 use Rattle.laws.proofs.Tests.{and-true}
 
 -- The ranges that are left, the trusted one last among them, where the modules before reach from first up to last.
@@ -64,30 +60,3 @@ module _ (jt : FlashWord) (first : ℕ) where
 
   pub rises-good : (rs : List Range) → Rises jt first first rs → (ordered jt rs && allApart rs) ≡ true
   rises-good rs h = and-true (ordered jt rs) (allApart rs) (all-ordered (omega arith) h) (all-apart (omega arith) h)
-
--- ---- the loop: one range less is left
-
-module _ (jt : FlashWord) (first last : ℕ) (rs : List Range) (i : ℕ) (lt : i < length rs) where
-  pub step-next : last ≤ getD rs i emptyRange .start .0 → getD rs i emptyRange .start .0 ≤ getD rs i emptyRange .end .0
-      → Rises jt first (getD rs i emptyRange .end .0) (drop (i + 1) rs) → Rises jt first last (drop i rs)
-  step-next a b h = rw (drop-cons rs i emptyRange) (next a b (rw add-one at h))
-
-  pub step-empty : getD rs i emptyRange .start .0 ≡ getD rs i emptyRange .end .0 → getD rs i emptyRange .start .0 < last
-      → Rises jt first last (drop (i + 1) rs) → Rises jt first last (drop i rs)
-  step-empty a b h = rw (drop-cons rs i emptyRange) (empty a b (rw add-one at h))
-
--- the trusted range is the last
-pub trusted-left : (rs : List Range) (i : ℕ) → i ≡ trusted → length rs ≡ domains → drop i rs ≡ (getD rs trusted emptyRange ∷ [])
-trusted-left rs i e l =
-    rw (e, drop-cons rs trusted emptyRange (omega arith), drop-of-length-le rs {i = domains} (omega arith))
-
--- ---- the answers
-
-pub refuses : (o a : Bool) → (o ≡ true → ⊥) → false ≡ (o && a)
-refuses true a n = absurd (n refl)
-refuses false a n = refl
-
--- a test that holds only where the ranges are good, and wherever they are ordered
-pub decides : (t o a : Bool) → (t ≡ true → (o && a) ≡ true) → (o ≡ true → t ≡ true) → t ≡ (o && a)
-decides true o a y n = sym (y refl)
-decides false o a y n = refuses o a (λ h. false≢true (n h))

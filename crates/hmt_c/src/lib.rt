@@ -1,10 +1,8 @@
 // Document 02, Ask 1: set-up and the six operations, callable from C on numbers and byte slices. The state sits in a slot of 48 bytes.
 ghost use mathlib.Core.Path.{_≡_};
 ghost use Rattle.rules.specs.Code.{flashWord};
-ghost use mathlib.Core.Bool.{not};
-ghost use lib.ListN.{length};
-ghost use Rattle.rules.specs.State.{ramByte, goodState};
-ghost use Rattle.rules.specs.Slot.{slotBytes, stateIn, GivesToC, wrongSize, cSetUpOf, cStoreOf, cCallOf, cReturnOf, cMallocOf, cFreeOf, cChangeOf};
+ghost use Rattle.rules.specs.State.{ramByte};
+ghost use Rattle.rules.specs.Slot.{GivesToC, wrongSize, cSetUpOf, cStoreOf, cCallOf, cReturnOf, cMallocOf, cFreeOf, cChangeOf};
 ghost use Rattle.hmt_c.specs.Step.{Before};
 use rules::Refusal;
 
@@ -39,8 +37,8 @@ fn wrong_size(ram: &[u8], slot: &[u8]) -> bool
     ram.len() != RAM_BYTES
 }
 
-// The step with which every operation begins, in two parts, so that each is compiled into its caller: the lengths and byte 47, with the refusal
-// that they give, 0 for none;
+// The step with which every operation begins: the lengths and byte 47, with the refusal that they give, 0 for none; then the state, by
+// slot::usual and, where that does not accept it, slot::good_state. As one function it is not compiled into its callers, which costs each call more.
 fn refusal_before(ram: &[u8], slot: &[u8]) -> u32
     ensures { λ r. ⌜ Before (now (slot .entry)) (now (ram .entry)) r ⌝ }
 {
@@ -51,17 +49,6 @@ fn refusal_before(ram: &[u8], slot: &[u8]) -> u32
         return refused(Refusal::BadState);
     }
     0
-}
-
-// and whether the state is not good.
-fn unfit(slot: &[u8]) -> bool
-    requires { ⌜ length (now slot) ≡ slotBytes ⌝ }
-    ensures { λ r. ⌜ r ≡ not (goodState (stateIn (now (slot .entry)))) ⌝ }
-{
-    if slot::usual(slot) {
-        return false;
-    }
-    !slot::good_state(slot)
 }
 
 #[no_mangle]
@@ -86,8 +73,10 @@ pub extern "C" fn hmt_store(ram: &mut [u8], slot: &mut [u8], address: u16, byte:
     if refusal != 0 {
         return refusal;
     }
-    if unfit(slot) {
-        return refused(Refusal::BadState);
+    if !slot::usual(slot) {
+        if !slot::good_state(slot) {
+            return refused(Refusal::BadState);
+        }
     }
     let outcome = operations::store(state_in(slot), ram, ram_byte(address), byte);
     let given = outcome.answer;
@@ -112,8 +101,10 @@ pub extern "C" fn hmt_call(
     if refusal != 0 {
         return refusal;
     }
-    if unfit(slot) {
-        return refused(Refusal::BadState);
+    if !slot::usual(slot) {
+        if !slot::good_state(slot) {
+            return refused(Refusal::BadState);
+        }
     }
     let state = state_in(slot);
     let at = table_word(state.config.jt, flash_word(target));
@@ -141,8 +132,10 @@ pub extern "C" fn hmt_return(ram: &mut [u8], slot: &mut [u8]) -> u32
     if refusal != 0 {
         return refusal;
     }
-    if unfit(slot) {
-        return refused(Refusal::BadState);
+    if !slot::usual(slot) {
+        if !slot::good_state(slot) {
+            return refused(Refusal::BadState);
+        }
     }
     let state = state_in(slot);
     if state.safepointer.0 == state.config.safe.0 {
@@ -162,8 +155,10 @@ pub extern "C" fn hmt_malloc(ram: &mut [u8], slot: &mut [u8], size: u16) -> u32
     if refusal != 0 {
         return refusal;
     }
-    if unfit(slot) {
-        return refused(Refusal::BadState);
+    if !slot::usual(slot) {
+        if !slot::good_state(slot) {
+            return refused(Refusal::BadState);
+        }
     }
     let outcome = operations::malloc(state_in(slot), ram, size);
     let given = outcome.answer;
@@ -178,8 +173,10 @@ pub extern "C" fn hmt_free(ram: &mut [u8], slot: &mut [u8], address: u16) -> u32
     if refusal != 0 {
         return refusal;
     }
-    if unfit(slot) {
-        return refused(Refusal::BadState);
+    if !slot::usual(slot) {
+        if !slot::good_state(slot) {
+            return refused(Refusal::BadState);
+        }
     }
     let outcome = operations::free(state_in(slot), ram, ram_byte(address));
     let given = outcome.answer;
@@ -194,8 +191,10 @@ pub extern "C" fn hmt_change(ram: &mut [u8], slot: &mut [u8], address: u16, doma
     if refusal != 0 {
         return refusal;
     }
-    if unfit(slot) {
-        return refused(Refusal::BadState);
+    if !slot::usual(slot) {
+        if !slot::good_state(slot) {
+            return refused(Refusal::BadState);
+        }
     }
     let outcome = operations::change(state_in(slot), ram, ram_byte(address), domain);
     let given = outcome.answer;

@@ -6,7 +6,6 @@ use mathlib.Core.List.{List}
 use native.Mathlib.Omega.{arith}
 use denote.Ref.{now}
 use lib.ListN.{length}
-use borrow.Author.Tests.{eq-eqb, ne-eqb}
 use Rattle.rules.specs.declared.State.{State}
 use Rattle.rules.specs.declared.RamByte.{RamByte}
 use Rattle.rules.specs.declared.FlashWord.{FlashWord}
@@ -18,6 +17,9 @@ use Rattle.rules.specs.Operations.{callOf}
 use Rattle.rules.specs.Slot.{slotBytes, configIn, stateIn, tableBytes, tableIn, wrongTable}
 use Rattle.laws.proofs.Good.{goodState-facts, domain≤trusted}
 use Rattle.laws.proofs.Bytes.{length-wordsAt, getD-wordsAt}
+use mathlib.Core.Logic.{⊎-elim}
+use borrow.Author.Tests.{eq-eqb, ne-eqb, not-false}
+use Rattle.laws.proofs.Tests.{failed, passed}
 use Rattle.hmt_c.specs.Step.{Sized}
 use Rattle.hmt_c.proofs.Step.{fit, not-fit}
 use Rattle.laws.proofs.ToC.{Ready, right-size, changed-to-c}
@@ -32,10 +34,12 @@ use Rattle.hmt_c.proofs.hmt_call.Tie as tie
 sized : (c : tie.Else2) → Sized (now (c .before .before .before .before .before .before .before .before .args .slot)) (now (c .before .before .before .before .before .before .before .before .args .ram))
 sized c = c .before .refusal-before .ensures .none (c .if2 .left)
 
-ready : (c : tie.Else3) → Ready (now (c .before .before .before .before .before .before .before .before .before .before .before .args .slot)) (now (c .before .before .before .before .before .before .before .before .before .before .before .args .ram))
-ready c = fit (now (c .before .before .before .before .before .before .before .before .before .before .before .args .slot)) (now (c .before .before .before .before .before .before .before .before .before .before .before .args .ram)) (sized (c .before .before .before)) (c .before .unfit .ensures) (c .if3 .left)
+ready : (c : tie.Joined3) → Ready (now (c .before .before .before .before .before .before .before .before .before .before .before .args .slot)) (now (c .before .before .before .before .before .before .before .before .before .before .before .args .ram))
+ready c =
+    fit (now (c .before .before .before .before .before .before .before .before .before .before .before .args .slot)) (now (c .before .before .before .before .before .before .before .before .before .before .before .args .ram)) (sized (c .before .before .before))
+    (⊎-elim (λ w. passed (w .2 .ensures) (w .3 .left)) (λ w. c .before .usual .ensures (not-false _ (w .left))) (c .if3 .came))
 
-sizes : (c : tie.Else3) → (length (now (c .before .before .before .before .before .before .before .before .before .before .before .args .slot)) ≡ slotBytes) × (length (now (c .before .before .before .before .before .before .before .before .before .before .before .args .ram)) ≡ ramBytes)
+sizes : (c : tie.Joined3) → (length (now (c .before .before .before .before .before .before .before .before .before .before .before .args .slot)) ≡ slotBytes) × (length (now (c .before .before .before .before .before .before .before .before .before .before .before .args .ram)) ≡ ramBytes)
 sizes c = right-size (now (c .before .before .before .before .before .before .before .before .before .before .before .args .slot)) (now (c .before .before .before .before .before .before .before .before .before .before .before .args .ram)) (ready c .sizes)
 
 right-table : (table : List ℕ) (t site : FlashWord) (p : RamByte) → length table ≡ tableBytes → wrongTable table (Call t site p) ≡ false
@@ -64,8 +68,11 @@ returns-2 c =
     let p : RamByte = ramByte (args .pointer) in
     c .before .refusal-before .ensures .some (c .if2 .taken) (now (args .table)) (Call t site p) (right-table (now (args .table)) t site p (c .before .before .before .before .if1 .left))
 
-unfit-requires : tie.Need-unfit-requires
-unfit-requires c κs = let args = c .before .before .before .before .before .before .before .before .before .args in right-size (now (args .slot)) (now (args .ram)) (sized (c .before) .sizes) .0
+usual-requires : tie.Need-usual-requires
+usual-requires c κs = let args = c .before .before .before .before .before .before .before .before .before .args in right-size (now (args .slot)) (now (args .ram)) (sized (c .before) .sizes) .0
+
+good-state-requires : tie.Need-good-state-requires
+good-state-requires c κs = usual-requires (c .before .before .before) κs
 
 refused-requires-2 : tie.Need-refused-requires-2
 refused-requires-2 c κs = search needs
@@ -78,8 +85,8 @@ same-length-4 c = search needs
 
 returns-3 : tie.Need-returns-3
 returns-3 c =
-    let args = c .before .before .before .before .before .before .before .before .before .before .before .before .args in
-    not-fit (now (args .slot)) (now (args .ram)) (sized (c .before .before .before .before)) (c .before .before .unfit .ensures) (c .before .if3 .taken) _ (c .refused2 .ensures) (now (args .table)) (Call (flashWord (args .target)) (flashWord (args .site)) (ramByte (args .pointer))) (right-table (now (args .table)) (flashWord (args .target)) (flashWord (args .site)) (ramByte (args .pointer)) (c .before .before .before .before .before .before .before .before .if1 .left))
+    let args = c .before .before .before .before .before .before .before .before .before .before .before .before .before .before .before .args in
+    not-fit (now (args .slot)) (now (args .ram)) (sized (c .before .before .before .before .before .before .before)) (failed (c .before .before .good-state .ensures) (c .before .if4 .taken)) _ (c .refused2 .ensures) (now (args .table)) (Call (flashWord (args .target)) (flashWord (args .site)) (ramByte (args .pointer))) (right-table (now (args .table)) (flashWord (args .target)) (flashWord (args .site)) (ramByte (args .pointer)) (c .before .before .before .before .before .before .before .before .before .before .before .if1 .left))
 
 state-in-requires : tie.Need-state-in-requires
 state-in-requires c κs = sizes (c .before) .0
@@ -164,7 +171,8 @@ hmt-call-spec =
     same-length
     same-length-2
     returns-2
-    unfit-requires
+    usual-requires
+    good-state-requires
     refused-requires-2
     same-length-3
     same-length-4

@@ -7,6 +7,9 @@ use lib.ListN.{length}
 use Rattle.rules.specs.declared.Operation.the-variants.{Malloc}
 use Rattle.rules.specs.Memory.{ramBytes}
 use Rattle.rules.specs.Slot.{slotBytes}
+use mathlib.Core.Logic.{⊎-elim}
+use borrow.Author.Tests.{not-false}
+use Rattle.laws.proofs.Tests.{failed, passed}
 use Rattle.hmt_c.specs.Step.{Sized}
 use Rattle.hmt_c.proofs.Step.{fit, not-fit}
 use Rattle.laws.proofs.ToC.{Ready, right-size, kept-to-c}
@@ -18,10 +21,12 @@ use Rattle.hmt_c.proofs.hmt_malloc.Tie as tie
 sized : (c : tie.Else1) → Sized (now (c .before .before .before .before .before .before .args .slot)) (now (c .before .before .before .before .before .before .args .ram))
 sized c = c .before .refusal-before .ensures .none (c .if1 .left)
 
-ready : (c : tie.Else2) → Ready (now (c .before .before .before .before .before .before .before .before .before .args .slot)) (now (c .before .before .before .before .before .before .before .before .before .args .ram))
-ready c = fit (now (c .before .before .before .before .before .before .before .before .before .args .slot)) (now (c .before .before .before .before .before .before .before .before .before .args .ram)) (sized (c .before .before .before)) (c .before .unfit .ensures) (c .if2 .left)
+ready : (c : tie.Joined2) → Ready (now (c .before .before .before .before .before .before .before .before .before .args .slot)) (now (c .before .before .before .before .before .before .before .before .before .args .ram))
+ready c =
+    fit (now (c .before .before .before .before .before .before .before .before .before .args .slot)) (now (c .before .before .before .before .before .before .before .before .before .args .ram)) (sized (c .before .before .before))
+    (⊎-elim (λ w. passed (w .2 .ensures) (w .3 .left)) (λ w. c .before .usual .ensures (not-false _ (w .left))) (c .if2 .came))
 
-sizes : (c : tie.Else2) → (length (now (c .before .before .before .before .before .before .before .before .before .args .slot)) ≡ slotBytes) × (length (now (c .before .before .before .before .before .before .before .before .before .args .ram)) ≡ ramBytes)
+sizes : (c : tie.Joined2) → (length (now (c .before .before .before .before .before .before .before .before .before .args .slot)) ≡ slotBytes) × (length (now (c .before .before .before .before .before .before .before .before .before .args .ram)) ≡ ramBytes)
 sizes c = right-size (now (c .before .before .before .before .before .before .before .before .before .args .slot)) (now (c .before .before .before .before .before .before .before .before .before .args .ram)) (ready c .sizes)
 
 refusal-before-requires : tie.Need-refusal-before-requires
@@ -36,8 +41,11 @@ same-length-2 c = search needs
 returns : tie.Need-returns
 returns c = let args = c .before .before .before .before .before .before .args in c .before .refusal-before .ensures .some (c .if1 .taken) [] (Malloc (args .size)) refl
 
-unfit-requires : tie.Need-unfit-requires
-unfit-requires c κs = let args = c .before .before .before .before .before .before .before .args in right-size (now (args .slot)) (now (args .ram)) (sized (c .before) .sizes) .0
+usual-requires : tie.Need-usual-requires
+usual-requires c κs = let args = c .before .before .before .before .before .before .before .args in right-size (now (args .slot)) (now (args .ram)) (sized (c .before) .sizes) .0
+
+good-state-requires : tie.Need-good-state-requires
+good-state-requires c κs = usual-requires (c .before .before .before) κs
 
 refused-requires : tie.Need-refused-requires
 refused-requires c κs = search needs
@@ -50,8 +58,8 @@ same-length-4 c = search needs
 
 returns-2 : tie.Need-returns-2
 returns-2 c =
-    let args = c .before .before .before .before .before .before .before .before .before .before .args in
-    not-fit (now (args .slot)) (now (args .ram)) (sized (c .before .before .before .before)) (c .before .before .unfit .ensures) (c .before .if2 .taken) _ (c .refused .ensures) [] (Malloc (args .size)) refl
+    let args = c .before .before .before .before .before .before .before .before .before .before .before .before .before .args in
+    not-fit (now (args .slot)) (now (args .ram)) (sized (c .before .before .before .before .before .before .before)) (failed (c .before .before .good-state .ensures) (c .before .if3 .taken)) _ (c .refused .ensures) [] (Malloc (args .size)) refl
 
 state-in-requires : tie.Need-state-in-requires
 state-in-requires c κs = sizes (c .before) .0
@@ -82,7 +90,8 @@ hmt-malloc-spec =
     same-length
     same-length-2
     returns
-    unfit-requires
+    usual-requires
+    good-state-requires
     refused-requires
     same-length-3
     same-length-4

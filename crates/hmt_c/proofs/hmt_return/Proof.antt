@@ -13,6 +13,9 @@ use Rattle.rules.specs.Code.{rangeOf}
 use Rattle.rules.specs.Return.{topFrame}
 use Rattle.rules.specs.Slot.{slotBytes, configIn, stateIn}
 use Rattle.laws.proofs.Good.{goodState-facts}
+use mathlib.Core.Logic.{⊎-elim}
+use borrow.Author.Tests.{not-false}
+use Rattle.laws.proofs.Tests.{failed, passed}
 use Rattle.hmt_c.specs.Step.{Sized}
 use Rattle.hmt_c.proofs.Step.{fit, not-fit}
 use Rattle.laws.proofs.ToC.{Ready, right-size, changed-to-c}
@@ -27,10 +30,12 @@ use Rattle.hmt_c.proofs.hmt_return.Tie as tie
 sized : (c : tie.Else1) → Sized (now (c .before .before .before .before .before .before .args .slot)) (now (c .before .before .before .before .before .before .args .ram))
 sized c = c .before .refusal-before .ensures .none (c .if1 .left)
 
-ready : (c : tie.Else2) → Ready (now (c .before .before .before .before .before .before .before .before .before .args .slot)) (now (c .before .before .before .before .before .before .before .before .before .args .ram))
-ready c = fit (now (c .before .before .before .before .before .before .before .before .before .args .slot)) (now (c .before .before .before .before .before .before .before .before .before .args .ram)) (sized (c .before .before .before)) (c .before .unfit .ensures) (c .if2 .left)
+ready : (c : tie.Joined2) → Ready (now (c .before .before .before .before .before .before .before .before .before .args .slot)) (now (c .before .before .before .before .before .before .before .before .before .args .ram))
+ready c =
+    fit (now (c .before .before .before .before .before .before .before .before .before .args .slot)) (now (c .before .before .before .before .before .before .before .before .before .args .ram)) (sized (c .before .before .before))
+    (⊎-elim (λ w. passed (w .2 .ensures) (w .3 .left)) (λ w. c .before .usual .ensures (not-false _ (w .left))) (c .if2 .came))
 
-sizes : (c : tie.Else2) → (length (now (c .before .before .before .before .before .before .before .before .before .args .slot)) ≡ slotBytes) × (length (now (c .before .before .before .before .before .before .before .before .before .args .ram)) ≡ ramBytes)
+sizes : (c : tie.Joined2) → (length (now (c .before .before .before .before .before .before .before .before .before .args .slot)) ≡ slotBytes) × (length (now (c .before .before .before .before .before .before .before .before .before .args .ram)) ≡ ramBytes)
 sizes c = right-size (now (c .before .before .before .before .before .before .before .before .before .args .slot)) (now (c .before .before .before .before .before .before .before .before .before .args .ram)) (ready c .sizes)
 
 refusal-before-requires : tie.Need-refusal-before-requires
@@ -45,8 +50,11 @@ same-length-2 c = search needs
 returns : tie.Need-returns
 returns c = c .before .refusal-before .ensures .some (c .if1 .taken) [] Return refl
 
-unfit-requires : tie.Need-unfit-requires
-unfit-requires c κs = let args = c .before .before .before .before .before .before .before .args in right-size (now (args .slot)) (now (args .ram)) (sized (c .before) .sizes) .0
+usual-requires : tie.Need-usual-requires
+usual-requires c κs = let args = c .before .before .before .before .before .before .before .args in right-size (now (args .slot)) (now (args .ram)) (sized (c .before) .sizes) .0
+
+good-state-requires : tie.Need-good-state-requires
+good-state-requires c κs = usual-requires (c .before .before .before) κs
 
 refused-requires : tie.Need-refused-requires
 refused-requires c κs = search needs
@@ -59,8 +67,8 @@ same-length-4 c = search needs
 
 returns-2 : tie.Need-returns-2
 returns-2 c =
-    let args = c .before .before .before .before .before .before .before .before .before .before .args in
-    not-fit (now (args .slot)) (now (args .ram)) (sized (c .before .before .before .before)) (c .before .before .unfit .ensures) (c .before .if2 .taken) _ (c .refused .ensures) [] Return refl
+    let args = c .before .before .before .before .before .before .before .before .before .before .before .before .before .args in
+    not-fit (now (args .slot)) (now (args .ram)) (sized (c .before .before .before .before .before .before .before)) (failed (c .before .before .good-state .ensures) (c .before .if3 .taken)) _ (c .refused .ensures) [] Return refl
 
 state-in-requires : tie.Need-state-in-requires
 state-in-requires c κs = sizes (c .before) .0
@@ -75,13 +83,13 @@ same-length-6 : tie.Need-same-length-6
 same-length-6 c = search needs
 
 returns-3 : tie.Need-returns-3
-returns-3 c = no-frame _ _ (ready (c .before .before .before .before .before)) (rw (c .before .before .before .state-in .ensures) at (c .before .if3 .taken)) _ (c .refused2 .ensures)
+returns-3 c = no-frame _ _ (ready (c .before .before .before .before .before)) (rw (c .before .before .before .state-in .ensures) at (c .before .if4 .taken)) _ (c .refused2 .ensures)
 
 -- there is a frame
-some : (c : tie.Else3) → stateIn (now (c .before .before .before .before .before .before .before .before .before .before .before .before .before .args .slot)) .config .safe .0 < stateIn (now (c .before .before .before .before .before .before .before .before .before .before .before .before .before .args .slot)) .safepointer .0
+some : (c : tie.Else4) → stateIn (now (c .before .before .before .before .before .before .before .before .before .before .before .before .before .args .slot)) .config .safe .0 < stateIn (now (c .before .before .before .before .before .before .before .before .before .before .before .before .before .args .slot)) .safepointer .0
 some c =
     let s : State = stateIn (now (c .before .before .before .before .before .before .before .before .before .before .before .before .before .args .slot)) in
-    omega (arith, goodState-facts s (ready (c .before .before .before .before) .good) .safe≤safepointer, rw (c .before .before .state-in .ensures) at (c .if3 .left))
+    omega (arith, goodState-facts s (ready (c .before .before .before .before) .good) .safe≤safepointer, rw (c .before .before .state-in .ensures) at (c .if4 .left))
 
 top-frame-requires : tie.Need-top-frame-requires
 top-frame-requires c κs = rw (c .before .before .before .state-in .ensures) (sizes (c .before .before .before .before .before) .1, ready (c .before .before .before .before .before) .good, some (c .before))
@@ -132,7 +140,8 @@ hmt-return-spec =
     same-length
     same-length-2
     returns
-    unfit-requires
+    usual-requires
+    good-state-requires
     refused-requires
     same-length-3
     same-length-4
