@@ -69,38 +69,19 @@ pub record Ready (slot ram : List ℕ) : Type 0 where
   pub zero : getD slot zeroPart 0 ≡ 0
   pub good : goodState (stateIn slot) ≡ true
 
--- what these tests give, for any operation whose table has its length: its refusal as a number, 0 for none
-pub record Judged (slot ram : List ℕ) (n : ℕ) : Type 0 where
-  pub none : n ≡ 0 → Ready slot ram
-  pub some : (n ≡ 0 → ⊥) → (table : List ℕ) (op : Operation) → wrongTable table op ≡ false → GivesToC n slot ram (cOperationOf slot ram table op)
+-- the refusals of these tests, as a number, for any operation whose table has its length
+module _ (slot ram : List ℕ) (n : ℕ) (table : List ℕ) (op : Operation) (right : wrongTable table op ≡ false) where
+  pub refused-size : wrongSize slot ram ≡ true → n ≡ packed (Refused WrongSize) → GivesToC n slot ram (cOperationOf slot ram table op)
+  refused-size w e = rw (right, w) (e, refl, refl)
 
-module _ (slot ram : List ℕ) (n : ℕ) where
-  pub judged-size : wrongSize slot ram ≡ true → n ≡ packed (Refused WrongSize) → Judged slot ram n
-  judged-size w e = record { none = λ z. absurd (omega arith); some = λ _ table op t. rw (t, w) (e, refl, refl) }
+  pub refused-zero : wrongSize slot ram ≡ false → (getD slot zeroPart 0 ≡ 0 → ⊥) → n ≡ packed (Refused BadState)
+      → GivesToC n slot ram (cOperationOf slot ram table op)
+  refused-zero w z e = rw (right, w, ne-eqb (getD slot zeroPart 0) 0 z) (e, refl, refl)
 
-  pub judged-zero : wrongSize slot ram ≡ false → (getD slot zeroPart 0 ≡ 0 → ⊥) → n ≡ packed (Refused BadState) → Judged slot ram n
-  judged-zero w z e =
-      record {
-        none = λ z. absurd (omega arith);
-        some = λ _ table op t. rw (t, w, ne-eqb (getD slot zeroPart 0) 0 z) (e, refl, refl);
-      }
-
-  pub judged-bad : wrongSize slot ram ≡ false → getD slot zeroPart 0 ≡ 0 → goodState (stateIn slot) ≡ false → n ≡ packed (Refused BadState)
-      → Judged slot ram n
-  judged-bad w z b e =
-      record {
-        none = λ z. absurd (omega arith);
-        some = λ _ table op t.
-            rw (t, w, eq-eqb (getD slot zeroPart 0) 0 z, right-table table op, eq-eqb (length ram) ramBytes (right-size slot ram w .1), b) (e, refl, refl);
-      }
-
-pub judged-none : (slot ram : List ℕ) → Ready slot ram → Judged slot ram 0
-judged-none slot ram r = record { none = λ _. r; some = λ n. absurd (n refl) }
-
--- a table of another length is told first
-pub wrong-table : (slot ram table : List ℕ) (op : Operation) → wrongTable table op ≡ true
-    → GivesToC (packed (Refused WrongSize)) slot ram (cOperationOf slot ram table op)
-wrong-table slot ram table op h = rw h (refl, refl, refl)
+  pub refused-state : wrongSize slot ram ≡ false → getD slot zeroPart 0 ≡ 0 → goodState (stateIn slot) ≡ false → n ≡ packed (Refused BadState)
+      → GivesToC n slot ram (cOperationOf slot ram table op)
+  refused-state w z b e =
+      rw (right, w, eq-eqb (getD slot zeroPart 0) 0 z, right-table table op, eq-eqb (length ram) ramBytes (right-size slot ram w .1), b) (e, refl, refl)
 
 passed : (wrong : Bool) (slot ram : List ℕ) → wrong ≡ false → getD slot zeroPart 0 ≡ 0 → (g : Given) → cOperation wrong slot ram g ≡ toC slot ram g
 passed wrong slot ram w z g = rw (w, eq-eqb (getD slot zeroPart 0) 0 z)

@@ -5,7 +5,7 @@ use mathlib.Core.List.{List}
 use native.Mathlib.Omega.{arith}
 use denote.Ref.{now}
 use Rattle.rules.specs.Slot.{wrongSize}
-use Rattle.laws.proofs.ToC.{right-size, judged-size, judged-zero}
+use Rattle.laws.proofs.ToC.{right-size, refused-size, refused-zero}
 use borrow.Author.Needs.{needs}
 use Rattle.hmt_c.proofs.refusal_before.Statement.{statement}
 use Rattle.hmt_c.proofs.refusal_before.Tie as tie
@@ -24,7 +24,7 @@ returns : tie.Need-returns
 returns c =
     record {
       none = λ z. absurd (omega (arith, c .refused .ensures));
-      some = judged-size _ _ _ (sym (c .before .before .wrong-size .ensures) ∙ c .before .if1 .taken) (c .refused .ensures) .some;
+      some = λ _ table op right. refused-size _ _ _ table op right (sym (c .before .before .wrong-size .ensures) ∙ c .before .if1 .taken) (c .refused .ensures);
     }
 
 shared-slice-read-if2 : tie.Need-shared-slice-read-if2
@@ -38,7 +38,7 @@ returns-2 : tie.Need-returns-2
 returns-2 c =
     record {
       none = λ z. absurd (omega (arith, c .refused2 .ensures));
-      some = judged-zero _ _ _ (sizes (c .before .before .before)) (c .before .if2 .taken) (c .refused2 .ensures) .some;
+      some = λ _ table op right. refused-zero _ _ _ table op right (sizes (c .before .before .before)) (c .before .if2 .taken) (c .refused2 .ensures);
     }
 
 returns-3 : tie.Need-returns-3
