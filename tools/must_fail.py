@@ -39,7 +39,7 @@ from concurrent.futures import ThreadPoolExecutor
 ROOT = os.path.dirname(os.path.dirname(os.path.abspath(__file__)))
 PARTS = ("src", "specs", "proofs")
 # what the checker says where a proof does not fit the code, and not that a fact is false
-UNFIT = re.compile(r"has no |not in scope|cannot be named")
+UNFIT = re.compile(r"has no (field|`)|not in scope|cannot be named")
 
 
 class Edit:
