@@ -109,9 +109,6 @@ start-odd-by fourBits d = omega arith
 later-even-by : (w : Width) (d : ℕ) → laterCodeBy w d % 2 ≡ 0
 later-even-by fourBits d = omega arith
 
-free-odd-by : (w : Width) → freeCodeBy w % 2 ≡ 1
-free-odd-by fourBits = refl
-
 -- a code is that of its owner's start or of a later block of it
 odd-start-by : (w : Width) (code : ℕ) → code < radixBy w → code % 2 ≡ 1 → startCodeBy w (ownerBy w code) ≡ code
 odd-start-by fourBits code h o = omega arith

@@ -74,7 +74,7 @@ module _ (r : ℕ) (pos : 0 < r) where
     cell-at a i v h = rw getD-set-same
 
     -- a cell outside it is not written
-    pub cell-out : (a i v : ℕ) → length cells ≤ a → setCellDigit r cells a i v ≡ cells
+    cell-out : (a i v : ℕ) → length cells ≤ a → setCellDigit r cells a i v ≡ cells
     cell-out a i v h = set-out cells a _ h
 
     pub cell-same : (a i v : ℕ) → a < length cells → v < r → cellDigit r (setCellDigit r cells a i v) a i ≡ v

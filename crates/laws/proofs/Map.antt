@@ -10,7 +10,7 @@ use lib.ListN.{length, getD, length-set}
 use lib.Seq.{getD-set-other}
 use Rattle.rules.specs.Memory.{Width, fourBits, Order, lowFirst, Layout, radixBy, perByteBy, radix, perByte, mapBytesFor, digitBy, mapByte, mapDigit, codeOf, setCode, setCodes}
 use Rattle.laws.proofs.Rounding.{up-holds, up-le, up-pos}
-use Rattle.laws.proofs.Digits.{digit-lt, digits-ext, place-by, place-cell, place-digit, cell-out, cell-same, cell-other, cells-fit}
+use Rattle.laws.proofs.Digits.{digit-lt, digits-ext, place-by, place-cell, place-digit, cell-same, cell-other, cells-fit}
 use Rattle.laws.proofs.AllBelow.{AllBelow, none, one}
 
 -- ---- the numbers behind the map, each opened once for every width and every order
@@ -115,11 +115,6 @@ module _ (m : Layout) (ram : List ℕ) where
   pub length-setCode : (k v : ℕ) → length (setCode m ram k v) ≡ length ram
   unfolding setCode
   length-setCode k v = simp length-set
-
-  -- a code outside RAM is not written
-  pub setCode-out : (k v : ℕ) → length ram ≤ mapByte m k → setCode m ram k v ≡ ram
-  unfolding setCode
-  setCode-out k v h = cell-out (radix m) (radix-pos m) ram (mapByte m k) (mapDigit m k) v h
 
   pub code-same : (k v : ℕ) → mapByte m k < length ram → v < radix m → codeOf m (setCode m ram k v) k ≡ v
   unfolding codeOf setCode
