@@ -1,6 +1,7 @@
 // The three kinds of address, and every way from a number or from one kind to another: no other file makes one from a number, but
 // for those where numbers come in from outside. A block is 8 bytes here and nowhere else in the code.
 ghost use mathlib.Core.Path.{_≡_};
+ghost use mathlib.Core.Bool.{_&&_};
 ghost use Prim.Native.Nat.{_+_, _-_, _*_, _≤_, _<_};
 ghost use Rattle.rules.specs.Memory.{startOf, blockOf, isMultiple, dividedUp, blocksFor, ramBytes};
 ghost use Rattle.rules.specs.Code.{flashWord};
@@ -67,10 +68,11 @@ pub fn first_block() -> Block
     Block(0)
 }
 
-pub fn is_multiple(config: Config, a: RamByte) -> bool
-    ensures { λ r. ⌜ r ≡ isMultiple config a ⌝ }
+// Two addresses at once: their bits together leave no remainder by a power of two if each leaves none.
+pub fn are_multiples(config: Config, a: RamByte, b: RamByte) -> bool
+    ensures { λ r. ⌜ r ≡ (isMultiple config a && isMultiple config b) ⌝ }
 {
-    a.0 % BLOCK_BYTES == 0
+    (a.0 | b.0) % BLOCK_BYTES == 0
 }
 
 // How many parts of d hold n, in numbers so wide that the sum can't pass them.

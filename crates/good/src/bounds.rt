@@ -7,16 +7,10 @@ use rules::Config;
 pub fn multiples(config: Config) -> bool
     ensures { λ r. ⌜ r ≡ multiples config ⌝ }
 {
-    if !address::is_multiple(config, config.bot) {
+    if !address::are_multiples(config, config.bot, config.heap) {
         return false;
     }
-    if !address::is_multiple(config, config.heap) {
-        return false;
-    }
-    if !address::is_multiple(config, config.safe) {
-        return false;
-    }
-    address::is_multiple(config, config.top)
+    address::are_multiples(config, config.safe, config.top)
 }
 
 // Top is tested first, so that no sum or difference below can wrap.

@@ -1,36 +1,27 @@
 // Whether a configuration and a state are good: sections 2 to 4, a function for each group of rules.
 ghost use mathlib.Core.Path.{_≡_};
 ghost use mathlib.Core.Bool.{_&&_};
-ghost use Rattle.rules.specs.State.{multiples, botBelowTop, mapBelowHeap, heapBelowSafe, safeBelowTop, topInRam, jtInFlash, rangesOrdered, rangesApart, goodConfig, domainGood, boundGood, safepointerGood, goodState};
+ghost use Rattle.rules.specs.State.{multiples, botBelowTop, mapBelowHeap, heapBelowSafe, safeBelowTop, topInRam, goodConfig, domainGood, boundGood, safepointerGood, goodState};
 
-mod bounds;
-mod ranges;
+pub mod bounds;
+pub mod ranges;
 
+use address::are_multiples;
 use address::domains::is_domain;
 use rules::Config;
 use rules::State;
 
-// The jump tables end where flash does.
-const LAST_JT: u16 = 64512;
-
-// Section 2's addresses and section 3's jt.
+// Section 2's rules; two addresses at a time, so that a wrong one is refused soon.
 pub fn good_bounds(config: Config) -> bool
-    ensures { λ r. ⌜ r ≡ (multiples config && botBelowTop config && mapBelowHeap config && heapBelowSafe config && safeBelowTop config && topInRam config && jtInFlash config) ⌝ }
+    ensures { λ r. ⌜ r ≡ (multiples config && botBelowTop config && mapBelowHeap config && heapBelowSafe config && safeBelowTop config && topInRam config) ⌝ }
 {
-    if !bounds::multiples(config) {
+    if !are_multiples(config, config.bot, config.heap) {
         return false;
     }
-    if !bounds::in_order(config) {
+    if !are_multiples(config, config.safe, config.top) {
         return false;
     }
-    config.jt.0 <= LAST_JT
-}
-
-// Section 3's code ranges, in whatever order they lie.
-pub fn good_ranges(config: Config) -> bool
-    ensures { λ r. ⌜ r ≡ (rangesOrdered config && rangesApart config) ⌝ }
-{
-    ranges::in_any_order(config)
+    bounds::in_order(config)
 }
 
 pub fn good_config(config: Config) -> bool
@@ -39,7 +30,10 @@ pub fn good_config(config: Config) -> bool
     if !good_bounds(config) {
         return false;
     }
-    good_ranges(config)
+    if !ranges::jt_in_flash(config) {
+        return false;
+    }
+    ranges::in_any_order(config)
 }
 
 // Section 4: domain, bound and safe pointer; the bound is below RAM's end when one is added to it.

@@ -1,33 +1,24 @@
-// Section 3: the eight code ranges of a configuration.
+// Section 3: jt and the eight code ranges of a configuration.
 ghost use mathlib.Core.Path.{_≡_};
 ghost use mathlib.Core.Bool.{_&&_};
-ghost use Prim.Native.Nat.{suc, _<_};
 ghost use lib.ListN.{drop};
-ghost use Rattle.rules.specs.Code.{domains, rangeOf, apart, apartFrom};
-ghost use Rattle.rules.specs.State.{rangesOrdered, rangesApart};
+ghost use Rattle.rules.specs.Code.{apart, apartFrom};
+ghost use Rattle.rules.specs.State.{jtInFlash, rangesOrdered, rangesApart};
 use rules::Config;
 use rules::Range;
 
+// The jump tables end where flash does.
+const LAST_JT: u16 = 64512;
+
 const DOMAINS: u8 = 8;
 
-fn all_ordered(config: Config) -> bool
-    ensures { λ r. ⌜ r ≡ rangesOrdered config ⌝ }
+pub fn jt_in_flash(config: Config) -> bool
+    ensures { λ r. ⌜ r ≡ jtInFlash config ⌝ }
 {
-    let mut i: u8 = 0;
-    while i < DOMAINS {
-        let range = config.ranges[i as usize];
-        if range.end.0 < range.start.0 {
-            return false;
-        }
-        if config.jt.0 < range.end.0 {
-            return false;
-        }
-        i += 1;
-    }
-    true
+    config.jt.0 <= LAST_JT
 }
 
-fn apart(r: Range, q: Range) -> bool
+pub fn apart(r: Range, q: Range) -> bool
     ensures { λ a. ⌜ a ≡ apart r q ⌝ }
 {
     if r.start.0 == r.end.0 {
@@ -42,28 +33,13 @@ fn apart(r: Range, q: Range) -> bool
     q.end.0 <= r.start.0
 }
 
-// Whether the range of domain d is apart from those of the domains above it.
-fn apart_from_later(config: Config, d: u8) -> bool
-    requires { ⌜ d < domains ⌝ }
-    ensures { λ r. ⌜ r ≡ apartFrom (rangeOf config d) (drop (suc d) (config .ranges)) ⌝ }
+// Whether a range is apart from those of the domains from one on.
+fn apart_from(config: Config, range: Range, from: u8) -> bool
+    ensures { λ r. ⌜ r ≡ apartFrom range (drop from (config .ranges)) ⌝ }
 {
-    let range = config.ranges[d as usize];
-    let mut i: u8 = d + 1;
-    while i < DOMAINS {
-        if !apart(range, config.ranges[i as usize]) {
-            return false;
-        }
-        i += 1;
-    }
-    true
-}
-
-fn all_apart(config: Config) -> bool
-    ensures { λ r. ⌜ r ≡ rangesApart config ⌝ }
-{
-    let mut d: u8 = 0;
+    let mut d = from;
     while d < DOMAINS {
-        if !apart_from_later(config, d) {
+        if !apart(range, config.ranges[d as usize]) {
             return false;
         }
         d += 1;
@@ -71,11 +47,23 @@ fn all_apart(config: Config) -> bool
     true
 }
 
+// Each ordered, below jt and apart from those after it, in whatever order they lie.
 pub fn in_any_order(config: Config) -> bool
     ensures { λ r. ⌜ r ≡ (rangesOrdered config && rangesApart config) ⌝ }
 {
-    if !all_ordered(config) {
-        return false;
+    let mut d: u8 = 0;
+    while d < DOMAINS {
+        let range = config.ranges[d as usize];
+        if range.end.0 < range.start.0 {
+            return false;
+        }
+        if config.jt.0 < range.end.0 {
+            return false;
+        }
+        if !apart_from(config, range, d + 1) {
+            return false;
+        }
+        d += 1;
     }
-    all_apart(config)
+    true
 }

@@ -1,4 +1,4 @@
 -- What the proofs of this crate share.
-pub mod Step
+pub mod Ranges
 pub mod Refused
 pub mod Handed

@@ -1,2 +1,3 @@
--- What the tests before an operation show.
+-- What the tests before an operation show, and what they go through.
 pub mod Step
+pub mod Ranges

@@ -37,8 +37,7 @@ fn wrong_size(ram: &[u8], slot: &[u8]) -> bool
     ram.len() != RAM_BYTES
 }
 
-// The step with which every operation begins: the lengths and byte 47, with the refusal that they give, 0 for none; then the state, by
-// slot::usual and, where that does not accept it, slot::good_state. As one function it is not compiled into its callers, which costs each call more.
+// The step with which every operation begins: lengths, byte 47 and the state, with the refusal that they give, 0 for none.
 fn refusal_before(ram: &[u8], slot: &[u8]) -> u32
     ensures { λ r. ⌜ Before (now (slot .entry)) (now (ram .entry)) r ⌝ }
 {
@@ -46,6 +45,9 @@ fn refusal_before(ram: &[u8], slot: &[u8]) -> u32
         return refused(Refusal::WrongSize);
     }
     if slot[slot::ZERO] != 0 {
+        return refused(Refusal::BadState);
+    }
+    if !slot::good_state(slot) {
         return refused(Refusal::BadState);
     }
     0
@@ -73,11 +75,6 @@ pub extern "C" fn hmt_store(ram: &mut [u8], slot: &mut [u8], address: u16, byte:
     if refusal != 0 {
         return refusal;
     }
-    if !slot::usual(slot) {
-        if !slot::good_state(slot) {
-            return refused(Refusal::BadState);
-        }
-    }
     let outcome = operations::store(state_in(slot), ram, ram_byte(address), byte);
     let given = outcome.answer;
     packed(given)
@@ -100,11 +97,6 @@ pub extern "C" fn hmt_call(
     let refusal = refusal_before(ram, slot);
     if refusal != 0 {
         return refusal;
-    }
-    if !slot::usual(slot) {
-        if !slot::good_state(slot) {
-            return refused(Refusal::BadState);
-        }
     }
     let state = state_in(slot);
     let at = table_word(state.config.jt, flash_word(target));
@@ -132,11 +124,6 @@ pub extern "C" fn hmt_return(ram: &mut [u8], slot: &mut [u8]) -> u32
     if refusal != 0 {
         return refusal;
     }
-    if !slot::usual(slot) {
-        if !slot::good_state(slot) {
-            return refused(Refusal::BadState);
-        }
-    }
     let state = state_in(slot);
     if state.safepointer.0 == state.config.safe.0 {
         return refused(Refusal::NoFrame);
@@ -155,11 +142,6 @@ pub extern "C" fn hmt_malloc(ram: &mut [u8], slot: &mut [u8], size: u16) -> u32
     if refusal != 0 {
         return refusal;
     }
-    if !slot::usual(slot) {
-        if !slot::good_state(slot) {
-            return refused(Refusal::BadState);
-        }
-    }
     let outcome = operations::malloc(state_in(slot), ram, size);
     let given = outcome.answer;
     packed(given)
@@ -173,11 +155,6 @@ pub extern "C" fn hmt_free(ram: &mut [u8], slot: &mut [u8], address: u16) -> u32
     if refusal != 0 {
         return refusal;
     }
-    if !slot::usual(slot) {
-        if !slot::good_state(slot) {
-            return refused(Refusal::BadState);
-        }
-    }
     let outcome = operations::free(state_in(slot), ram, ram_byte(address));
     let given = outcome.answer;
     packed(given)
@@ -190,11 +167,6 @@ pub extern "C" fn hmt_change(ram: &mut [u8], slot: &mut [u8], address: u16, doma
     let refusal = refusal_before(ram, slot);
     if refusal != 0 {
         return refusal;
-    }
-    if !slot::usual(slot) {
-        if !slot::good_state(slot) {
-            return refused(Refusal::BadState);
-        }
     }
     let outcome = operations::change(state_in(slot), ram, ram_byte(address), domain);
     let given = outcome.answer;

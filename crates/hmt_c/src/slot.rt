@@ -2,22 +2,29 @@
 ghost use mathlib.Core.Path.{_≡_};
 ghost use mathlib.Core.Bool.{true, _&&_};
 ghost use mathlib.Core.List.{[], _∷_, _++_};
+ghost use Prim.Native.Nat.{_%_, _≤_};
 ghost use lib.ListN.{length};
 ghost use lib.Seq.{sets};
+ghost use Rattle.rules.specs.Code.{apartFrom};
 ghost use Rattle.rules.specs.State.{rangesOrdered, rangesApart, goodConfig, goodState};
 ghost use Rattle.rules.specs.Slot.{slotBytes, runPart, configIn, stateIn, runAsBytes, packed};
+ghost use Rattle.good.proofs.Groups.{restGood};
+ghost use Rattle.hmt_c.specs.Ranges.{rangesFrom};
 ghost use Rattle.laws.proofs.ToC.{after};
 use crate::answer::refused;
 use codec::config::JT;
 use codec::config::RANGE_BYTES;
 use codec::config::RANGES;
 use codec::config::config_at;
+use codec::config::range_at;
 use codec::ram_byte_at;
 use codec::word_at;
 use frames::high;
 use frames::low;
+use good::ranges::apart;
 use rules::Answer;
 use rules::Outcome;
+use rules::Range;
 use rules::State;
 
 // Where its parts begin: the configuration, what a call or a return changes (bound, safe pointer, domain), a byte 0.
@@ -59,8 +66,8 @@ const TRUSTED_END: usize = TRUSTED + 2;
 
 const JT_PLACE: usize = CONFIG + JT;
 
-// Code as it usually lies, seen in one pass over the slot itself: modules in rising order, the trusted code before or after them. Only another order
-// costs the test of all pairs. An empty range below last ends below it, too, and so needs no test against jt.
+// Code as it usually lies, seen in one pass: modules in rising order, the trusted code before or after them. An empty range below last ends
+// below it, too, and so needs no test against jt.
 fn rising(slot: &[u8]) -> bool
     requires { ⌜ length (now slot) ≡ slotBytes ⌝ }
     ensures { λ r. ⌜ (r ≡ true → (rangesOrdered (configIn (now (slot .entry))) && rangesApart (configIn (now (slot .entry)))) ≡ true) ⌝ }
@@ -95,7 +102,75 @@ fn rising(slot: &[u8]) -> bool
     last <= word_at(slot, JT_PLACE)
 }
 
-// Whether the configuration in the slot is good: the test of all pairs is left to code in another order.
+// Whether a range is apart from those that stand from a place on.
+fn apart_from(slot: &[u8], range: Range, from: usize) -> bool
+    requires { ⌜ length (now slot) ≡ slotBytes ⌝ }
+    requires { ⌜ (from ≤ runPart) × (from % 4 ≡ runPart % 4) ⌝ }
+    ensures { λ r. ⌜ r ≡ apartFrom range (rangesFrom (now (slot .entry)) from) ⌝ }
+{
+    let mut at = from;
+    while at < RUN {
+        if !apart(range, range_at(slot, at)) {
+            return false;
+        }
+        at += RANGE_BYTES;
+    }
+    true
+}
+
+// good::ranges::in_any_order over the slot itself: a copy of the configuration would stand on a small unit's stack.
+fn in_any_order(slot: &[u8]) -> bool
+    requires { ⌜ length (now slot) ≡ slotBytes ⌝ }
+    ensures { λ r. ⌜ r ≡ (rangesOrdered (configIn (now (slot .entry))) && rangesApart (configIn (now (slot .entry)))) ⌝ }
+{
+    let jt = word_at(slot, JT_PLACE);
+    let mut at: usize = FIRST;
+    while at < RUN {
+        let range = range_at(slot, at);
+        if range.end.0 < range.start.0 {
+            return false;
+        }
+        if jt < range.end.0 {
+            return false;
+        }
+        if !apart_from(slot, range, at + RANGE_BYTES) {
+            return false;
+        }
+        at += RANGE_BYTES;
+    }
+    true
+}
+
+// Whether the configuration is good but for the order of its four addresses, and its code lies as usual. This part is a call in every operation;
+// what an operation reads itself is tested where it is read.
+fn usual(slot: &[u8]) -> bool
+    requires { ⌜ length (now slot) ≡ slotBytes ⌝ }
+    ensures { λ r. ⌜ (r ≡ true → restGood (configIn (now (slot .entry))) ≡ true) ⌝ }
+{
+    if !good::bounds::multiples(config_at(slot, CONFIG)) {
+        return false;
+    }
+    if !good::ranges::jt_in_flash(config_at(slot, CONFIG)) {
+        return false;
+    }
+    rising(slot)
+}
+
+// The same however its code lies.
+fn unusual(slot: &[u8]) -> bool
+    requires { ⌜ length (now slot) ≡ slotBytes ⌝ }
+    ensures { λ r. ⌜ r ≡ restGood (configIn (now (slot .entry))) ⌝ }
+{
+    if !good::bounds::multiples(config_at(slot, CONFIG)) {
+        return false;
+    }
+    if !good::ranges::jt_in_flash(config_at(slot, CONFIG)) {
+        return false;
+    }
+    in_any_order(slot)
+}
+
+// Whether the configuration in the slot is good; its addresses first, since that is short.
 pub fn good_config(slot: &[u8]) -> bool
     requires { ⌜ length (now slot) ≡ slotBytes ⌝ }
     ensures { λ r. ⌜ r ≡ goodConfig (configIn (now (slot .entry))) ⌝ }
@@ -103,38 +178,26 @@ pub fn good_config(slot: &[u8]) -> bool
     if !good::good_bounds(config_at(slot, CONFIG)) {
         return false;
     }
-    if rising(slot) {
+    if usual(slot) {
         return true;
     }
-    good::good_ranges(config_at(slot, CONFIG))
+    unusual(slot)
 }
 
-// Whether the state is good and its code as it usually lies; apart from good_state, so that the usual call does not pay for what the rest needs.
-pub fn usual(slot: &[u8]) -> bool
-    requires { ⌜ length (now slot) ≡ slotBytes ⌝ }
-    ensures { λ r. ⌜ (r ≡ true → goodState (stateIn (now (slot .entry))) ≡ true) ⌝ }
-{
-    if !good::good_run(state_in(slot)) {
-        return false;
-    }
-    if !good::good_bounds(config_at(slot, CONFIG)) {
-        return false;
-    }
-    rising(slot)
-}
-
-// Whether the state in the slot is good, however its code lies.
+// Whether the state in the slot is good.
 pub fn good_state(slot: &[u8]) -> bool
     requires { ⌜ length (now slot) ≡ slotBytes ⌝ }
     ensures { λ r. ⌜ r ≡ goodState (stateIn (now (slot .entry))) ⌝ }
 {
+    if !usual(slot) {
+        if !unusual(slot) {
+            return false;
+        }
+    }
     if !good::good_run(state_in(slot)) {
         return false;
     }
-    if !good::good_bounds(config_at(slot, CONFIG)) {
-        return false;
-    }
-    good::good_ranges(config_at(slot, CONFIG))
+    good::bounds::in_order(config_at(slot, CONFIG))
 }
 
 // The bound, the safe pointer and the domain: five bytes, and no other.

@@ -69,6 +69,13 @@ pub record Ready (slot ram : List ℕ) : Type 0 where
   pub zero : getD slot zeroPart 0 ≡ 0
   pub good : goodState (stateIn slot) ≡ true
 
+module _ {slot ram : List ℕ} (h : Ready slot ram) where
+  pub slot-size : length slot ≡ slotBytes
+  slot-size = right-size slot ram (h .sizes) .0
+
+  pub ram-size : length ram ≡ ramBytes
+  ram-size = right-size slot ram (h .sizes) .1
+
 -- the refusals of these tests, as a number, for any operation whose table has its length
 module _ (slot ram : List ℕ) (n : ℕ) (table : List ℕ) (op : Operation) (right : wrongTable table op ≡ false) where
   pub refused-size : wrongSize slot ram ≡ true → n ≡ packed (Refused WrongSize) → GivesToC n slot ram (cOperationOf slot ram table op)

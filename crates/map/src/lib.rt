@@ -146,10 +146,10 @@ fn fill_bytes(from: RamByte, ram: &mut [u8], n: u16, code: u8)
     ensures { λ _. ⌜ now (ram .exit) ≡ setCodes (mapAt from) (now (ram .entry)) 0 (replicate (n * perByte (mapAt from)) code) ⌝ }
 {
     let byte = both(code);
-    let mut at = from.0 as usize;
-    let end = at + n as usize;
-    while at < end {
-        ram[at] = byte;
+    let mut at = from.0;
+    let end = at + n;
+    while at != end {
+        ram[at as usize] = byte;
         at += 1;
     }
 }
@@ -218,12 +218,11 @@ fn bytes_alike(from: RamByte, ram: &[u8], n: u16, byte: u8) -> u16
     ensures { λ r. ⌜ ((j : ℕ) → from .0 ≤ j → j < from .0 + r → getD (now (ram .entry)) j 0 ≡ byte) ⌝ }
     ensures { λ r. ⌜ (r < n → getD (now (ram .entry)) (from .0 + r) 0 ≢ byte) ⌝ }
 {
-    let first = from.0 as usize;
-    let to = first + n as usize;
-    let mut at = first;
-    while at < to {
-        if ram[at] != byte {
-            return (at - first) as u16;
+    let to = from.0 + n;
+    let mut at = from.0;
+    while at != to {
+        if ram[at as usize] != byte {
+            return at - from.0;
         }
         at += 1;
     }

@@ -22,7 +22,7 @@ use Rattle.rules.specs.declared.Answer.{Answer}
 use Rattle.rules.specs.declared.Outcome.{Outcome}
 use Rattle.rules.specs.declared.Operation.{Operation}
 use Rattle.rules.specs.Memory.{ramBytes, Layout, layoutOf, mapByte, isDomain, isModule, startOf, blockOf, blocksFor, isMultiple, mapBytesFor, codeOf, codesOf, setCodes, startCode, laterCode, freeCode, ownerOf, startsSegment}
-use Rattle.rules.specs.Code.{rangeOf, tableWords, domainWords, flashWord}
+use Rattle.rules.specs.Code.{rangeOf, apart, tableWords, domainWords, flashWord}
 use Rattle.rules.specs.State.{ramByte, multiples, botBelowTop, mapBelowHeap, heapBelowSafe, safeBelowTop, topInRam, jtInFlash, rangesOrdered, rangesApart, goodConfig, domainGood, boundGood, safepointerGood, goodState}
 use Rattle.rules.specs.Answers.{numberOf, valueOf, Given, Gives}
 use Rattle.rules.specs.SetUp.{setUpRam, setUpOf}
@@ -93,7 +93,7 @@ pub record Uniqueness : Type 1 where
   pub further : (k : Block) (n : ℕ) → Only (λ r. r ≡ block (k .0 + n))
   pub before : (k : Block) (n : ℕ) → Only (λ r. r ≡ block (k .0 - n))
   pub «first_block» : Only (λ r. r ≡ block 0)
-  pub «is_multiple» : (config : Config) (a : RamByte) → Only (λ r. r ≡ isMultiple config a)
+  pub «are_multiples» : (config : Config) (a b : RamByte) → Only (λ r. r ≡ (isMultiple config a && isMultiple config b))
   pub «blocks_for» : (config : Config) (size : ℕ) → Only (λ r. r ≡ blocksFor config size)
   pub above : (a : RamByte) (n : ℕ) → Only (λ r. r ≡ ramByte (a .0 + n))
   pub below : (a : RamByte) (n : ℕ) → Only (λ r. r ≡ ramByte (a .0 - n))
@@ -123,11 +123,16 @@ pub record Uniqueness : Type 1 where
   pub pop : (area : List ℕ) (used : ℕ) → Only (λ r. r ≡ readFrame (take used area))
   -- crates/good
   pub «good_bounds» : (config : Config)
-      → Only (λ r. r ≡ (multiples config && botBelowTop config && mapBelowHeap config && heapBelowSafe config && safeBelowTop config && topInRam config && jtInFlash config))
-  pub «good_ranges» : (config : Config) → Only (λ r. r ≡ (rangesOrdered config && rangesApart config))
+      → Only (λ r. r ≡ (multiples config && botBelowTop config && mapBelowHeap config && heapBelowSafe config && safeBelowTop config && topInRam config))
   pub «good_config» : (config : Config) → Only (λ r. r ≡ goodConfig config)
   pub «good_run» : (state : State) → Only (λ r. r ≡ (domainGood state && boundGood state && safepointerGood state))
   pub «good_state» : (state : State) → Only (λ r. r ≡ goodState state)
+  pub «multiples» : (config : Config) → Only (λ r. r ≡ multiples config)
+  pub «in_order» : (config : Config)
+      → Only (λ r. r ≡ (botBelowTop config && mapBelowHeap config && heapBelowSafe config && safeBelowTop config && topInRam config))
+  pub «jt_in_flash» : (config : Config) → Only (λ r. r ≡ jtInFlash config)
+  pub «apart» : (r q : Range) → Only (λ a. a ≡ apart r q)
+  pub «in_any_order» : (config : Config) → Only (λ r. r ≡ (rangesOrdered config && rangesApart config))
   -- crates/map; `runOf` is where a search ended, by the first address of the run
   pub «owner_of» : (config : Config) (code : ℕ) → Only (λ r. r ≡ ownerOf (layoutOf config) code)
   pub «starts_segment» : (config : Config) (code : ℕ) → Only (λ r. r ≡ startsSegment (layoutOf config) code)

@@ -10,19 +10,14 @@ use Rattle.rules.specs.declared.State.{State}
 use Rattle.rules.specs.declared.RamByte.{RamByte}
 use Rattle.rules.specs.declared.FlashWord.{FlashWord}
 use Rattle.rules.specs.declared.Operation.the-variants.{Call}
-use Rattle.rules.specs.Memory.{ramBytes}
 use Rattle.rules.specs.Code.{tableWords, domainWords, flashWord, rangeOf, tableWord}
 use Rattle.rules.specs.State.{ramByte}
 use Rattle.rules.specs.Operations.{callOf}
-use Rattle.rules.specs.Slot.{slotBytes, configIn, stateIn, tableBytes, tableIn, wrongTable}
+use Rattle.rules.specs.Slot.{configIn, stateIn, tableBytes, tableIn, wrongTable}
 use Rattle.laws.proofs.Good.{goodState-facts, domain≤trusted}
 use Rattle.laws.proofs.Bytes.{length-wordsAt, getD-wordsAt}
-use mathlib.Core.Logic.{⊎-elim}
-use borrow.Author.Tests.{eq-eqb, ne-eqb, not-false}
-use Rattle.laws.proofs.Tests.{failed, passed}
-use Rattle.hmt_c.specs.Step.{Sized}
-use Rattle.hmt_c.proofs.Step.{fit, not-fit}
-use Rattle.laws.proofs.ToC.{Ready, right-size, changed-to-c}
+use borrow.Author.Tests.{eq-eqb, ne-eqb}
+use Rattle.laws.proofs.ToC.{Ready, slot-size, ram-size, changed-to-c}
 use Rattle.operations.proofs.CallRows.{call-by-word}
 use Rattle.operations.specs.CallRows.{tableOf}
 use Rattle.hmt_c.proofs.Handed.{handed, gives-as}
@@ -31,16 +26,8 @@ use Rattle.hmt_c.proofs.hmt_call.Statement.{statement}
 use Rattle.hmt_c.proofs.hmt_call.Tie as tie
 
 -- past the step with which every operation begins
-sized : (c : tie.Else2) → Sized (now (c .before .before .before .before .before .before .before .before .args .slot)) (now (c .before .before .before .before .before .before .before .before .args .ram))
-sized c = c .before .refusal-before .ensures .none (c .if2 .left)
-
-ready : (c : tie.Joined3) → Ready (now (c .before .before .before .before .before .before .before .before .before .before .before .args .slot)) (now (c .before .before .before .before .before .before .before .before .before .before .before .args .ram))
-ready c =
-    fit (now (c .before .before .before .before .before .before .before .before .before .before .before .args .slot)) (now (c .before .before .before .before .before .before .before .before .before .before .before .args .ram)) (sized (c .before .before .before))
-    (⊎-elim (λ w. passed (w .2 .ensures) (w .3 .left)) (λ w. c .before .usual .ensures (not-false _ (w .left))) (c .if3 .came))
-
-sizes : (c : tie.Joined3) → (length (now (c .before .before .before .before .before .before .before .before .before .before .before .args .slot)) ≡ slotBytes) × (length (now (c .before .before .before .before .before .before .before .before .before .before .before .args .ram)) ≡ ramBytes)
-sizes c = right-size (now (c .before .before .before .before .before .before .before .before .before .before .before .args .slot)) (now (c .before .before .before .before .before .before .before .before .before .before .before .args .ram)) (ready c .sizes)
+ready : (c : tie.Else2) → Ready (now (c .before .before .before .before .before .before .before .before .args .slot)) (now (c .before .before .before .before .before .before .before .before .args .ram))
+ready c = c .before .refusal-before .ensures .none (c .if2 .left)
 
 right-table : (table : List ℕ) (t site : FlashWord) (p : RamByte) → length table ≡ tableBytes → wrongTable table (Call t site p) ≡ false
 right-table table t site p h = rw (eq-eqb (length table) tableBytes h) refl
@@ -68,28 +55,8 @@ returns-2 c =
     let p : RamByte = ramByte (args .pointer) in
     c .before .refusal-before .ensures .some (c .if2 .taken) (now (args .table)) (Call t site p) (right-table (now (args .table)) t site p (c .before .before .before .before .if1 .left))
 
-usual-requires : tie.Need-usual-requires
-usual-requires c κs = let args = c .before .before .before .before .before .before .before .before .before .args in right-size (now (args .slot)) (now (args .ram)) (sized (c .before) .sizes) .0
-
-good-state-requires : tie.Need-good-state-requires
-good-state-requires c κs = usual-requires (c .before .before .before) κs
-
-refused-requires-2 : tie.Need-refused-requires-2
-refused-requires-2 c κs = search needs
-
-same-length-3 : tie.Need-same-length-3
-same-length-3 c = search needs
-
-same-length-4 : tie.Need-same-length-4
-same-length-4 c = search needs
-
-returns-3 : tie.Need-returns-3
-returns-3 c =
-    let args = c .before .before .before .before .before .before .before .before .before .before .before .before .before .before .before .args in
-    not-fit (now (args .slot)) (now (args .ram)) (sized (c .before .before .before .before .before .before .before)) (failed (c .before .before .good-state .ensures) (c .before .if4 .taken)) _ (c .refused2 .ensures) (now (args .table)) (Call (flashWord (args .target)) (flashWord (args .site)) (ramByte (args .pointer))) (right-table (now (args .table)) (flashWord (args .target)) (flashWord (args .site)) (ramByte (args .pointer)) (c .before .before .before .before .before .before .before .before .before .before .before .if1 .left))
-
 state-in-requires : tie.Need-state-in-requires
-state-in-requires c κs = sizes (c .before) .0
+state-in-requires c κs = slot-size (ready (c .before))
 
 flash-word-requires : tie.Need-flash-word-requires
 flash-word-requires c κs = search needs
@@ -99,14 +66,14 @@ table-word-requires c κs = search needs
 
 code-range-requires : tie.Need-code-range-requires
 code-range-requires c κs =
-    (omega (arith, sizes (c .before .before .before .before .before) .0), rw (c .before .before .before .state-in .ensures) (domain≤trusted (goodState-facts (stateIn (now (c .before .before .before .before .before .before .before .before .before .before .before .before .before .before .before .before .args .slot))) (ready (c .before .before .before .before .before) .good))))
+    (omega (arith, slot-size (ready (c .before .before .before .before .before))), rw (c .before .before .before .state-in .ensures) (domain≤trusted (goodState-facts (stateIn (now (c .before .before .before .before .before .before .before .before .before .before .before .before .before .args .slot))) (ready (c .before .before .before .before .before) .good))))
 
 domain-of-requires : tie.Need-domain-of-requires
 domain-of-requires c κs = search needs
 
 code-range-requires-2 : tie.Need-code-range-requires-2
 code-range-requires-2 c κs =
-    (omega (arith, sizes (c .before .before .before .before .before .before .before .before) .0), omega (arith, c .domain-of .ensures, c .before .before .before .before .table-word .ensures .0))
+    (omega (arith, slot-size (ready (c .before .before .before .before .before .before .before .before))), omega (arith, c .domain-of .ensures, c .before .before .before .before .table-word .ensures .0))
 
 cast-word-at : tie.Need-cast-word-at
 cast-word-at c = search needs
@@ -115,7 +82,7 @@ mul-word-at : tie.Need-mul-word-at
 mul-word-at c = search needs
 
 word-at-requires : tie.Need-word-at-requires
-word-at-requires c κs = omega (arith, c .before .before .before .before .before .table-word .ensures .0, c .before .before .before .before .before .before .before .before .before .before .before .before .before .before .before .before .if1 .left)
+word-at-requires c κs = omega (arith, c .before .before .before .before .before .table-word .ensures .0, c .before .before .before .before .before .before .before .before .before .before .before .before .before .if1 .left)
 
 flash-word-requires-2 : tie.Need-flash-word-requires-2
 flash-word-requires-2 c κs = search needs
@@ -130,20 +97,20 @@ call-with-requires : tie.Need-call-with-requires
 call-with-requires c κs =
     let word = rw (c .before .before .before .before .before .before .before .before .before .before .before .before .state-in .ensures, c .before .before .before .before .before .before .before .before .before .before .before .flash-word .ensures) at (c .before .before .before .before .before .before .before .before .before .before .table-word .ensures .1) in
     rw (c .before .before .before .before .before .before .before .before .before .before .before .before .state-in .ensures, c .before .before .flash-word2 .ensures)
-    (sizes (c .before .before .before .before .before .before .before .before .before .before .before .before .before .before) .1, ready (c .before .before .before .before .before .before .before .before .before .before .before .before .before .before) .good, rw (c .before .before .before .before .before .before .before .before .before .before .before .before .state-in .ensures) at (c .before .before .before .before .before .before .before .before .code-range .ensures), λ from to. c .before .before .before .before .before .code-range2 .ensures ∙ ap (rangeOf (configIn (now (c .before .before .before .before .before .before .before .before .before .before .before .before .before .before .before .before .before .before .before .before .before .before .before .before .before .args .slot)))) (c .before .before .before .before .before .before .domain-of .ensures ∙ ap (λ w. w / domainWords) (word to)))
+    (ram-size (ready (c .before .before .before .before .before .before .before .before .before .before .before .before .before .before)), ready (c .before .before .before .before .before .before .before .before .before .before .before .before .before .before) .good, rw (c .before .before .before .before .before .before .before .before .before .before .before .before .state-in .ensures) at (c .before .before .before .before .before .before .before .before .code-range .ensures), λ from to. c .before .before .before .before .before .code-range2 .ensures ∙ ap (rangeOf (configIn (now (c .before .before .before .before .before .before .before .before .before .before .before .before .before .before .before .before .before .before .before .before .before .before .args .slot)))) (c .before .before .before .before .before .before .domain-of .ensures ∙ ap (λ w. w / domainWords) (word to)))
 
 change-requires : tie.Need-change-requires
-change-requires c κs = sizes (c .before .before .before .before .before .before .before .before .before .before .before .before .before .before .before .before .before .before) .0
+change-requires c κs = slot-size (ready (c .before .before .before .before .before .before .before .before .before .before .before .before .before .before .before .before .before .before))
 
-same-length-5 : tie.Need-same-length-5
-same-length-5 c = search needs
+same-length-3 : tie.Need-same-length-3
+same-length-3 c = search needs
 
-same-length-6 : tie.Need-same-length-6
-same-length-6 c = search needs
+same-length-4 : tie.Need-same-length-4
+same-length-4 c = search needs
 
-returns-4 : tie.Need-returns-4
-returns-4 c =
-    let args = c .before .before .before .before .before .before .before .before .before .before .before .before .before .before .before .before .before .before .before .before .before .before .before .before .before .before .before .before .before .before .before .before .args in
+returns-3 : tie.Need-returns-3
+returns-3 c =
+    let args = c .before .before .before .before .before .before .before .before .before .before .before .before .before .before .before .before .before .before .before .before .before .before .before .before .before .before .before .before .before .args in
     let slot : List ℕ = now (args .slot) in
     let ram : List ℕ = now (args .ram) in
     let table : List ℕ = now (args .table) in
@@ -156,7 +123,7 @@ returns-4 c =
     let e : 0 + 2 * tableWord (s .config) t ≡ 2 * tableWord (s .config) t = omega arith in
     let same = call-by-word s ram (tableIn table) t site p word (length-wordsAt table 0 tableWords) (λ from to. (rw e at (getD-wordsAt table 0 tableWords (tableWord (s .config) t) to)) ∙ sym (rw (at to) at (c .before .before .before .before .before .before .before .before .before .before .before .word-at .ensures)))
     ∙ sym (handed ram (tableOf word) _ s _ t _ site _ p (c .before .before .before .before .before .before .before .before .before .before .before .before .before .before .before .before .before .before .before .state-in .ensures) (c .before .before .before .before .before .before .before .before .before .flash-word2 .ensures) (c .before .before .before .before .before .before .before .before .flash-word3 .ensures) (c .before .before .before .before .before .before .before .ram-byte .ensures)) in
-    changed-to-c slot ram table (Call t site p) (λ i. omega (arith, c .before .before .before .before .before .before .before .before .before .before .before .before .before .before .before .before .before .before .before .before .before .before .before .before .before .before .before .before .before .before .slice-known2 .given i)) (right-table table t site p (c .before .before .before .before .before .before .before .before .before .before .before .before .before .before .before .before .before .before .before .before .before .before .before .before .before .before .before .before .if1 .left)) (ready (c .before .before .before .before .before .before .before .before .before .before .before .before .before .before .before .before .before .before .before .before .before))
+    changed-to-c slot ram table (Call t site p) (λ i. omega (arith, c .before .before .before .before .before .before .before .before .before .before .before .before .before .before .before .before .before .before .before .before .before .before .before .before .before .before .before .slice-known2 .given i)) (right-table table t site p (c .before .before .before .before .before .before .before .before .before .before .before .before .before .before .before .before .before .before .before .before .before .before .before .before .before .if1 .left)) (ready (c .before .before .before .before .before .before .before .before .before .before .before .before .before .before .before .before .before .before .before .before .before))
     _ _ (c .before .before .before .before .before .before .call-with .result) (c .before .before .change .result)
     (gives-as (c .before .before .before .before .before .before .call-with .result) (c .before .before .before .before .before .before .call-with .last .1 .0) (callOf s ram (tableIn table) t site p) (callOf (c .before .before .before .before .before .before .before .before .before .before .before .before .before .before .before .before .before .before .before .state-in .result) ram (tableOf word) (c .before .before .before .before .before .before .before .before .before .flash-word2 .result) (c .before .before .before .before .before .before .before .before .flash-word3 .result) (c .before .before .before .before .before .before .before .ram-byte .result)) same (c .before .before .before .before .before .before .call-with .ensures))
     (c .before .before .change .ensures .0) (c .before .before .change .ensures .1)
@@ -171,12 +138,6 @@ hmt-call-spec =
     same-length
     same-length-2
     returns-2
-    usual-requires
-    good-state-requires
-    refused-requires-2
-    same-length-3
-    same-length-4
-    returns-3
     state-in-requires
     flash-word-requires
     table-word-requires
@@ -191,6 +152,6 @@ hmt-call-spec =
     ram-byte-requires
     call-with-requires
     change-requires
-    same-length-5
-    same-length-6
-    returns-4)
+    same-length-3
+    same-length-4
+    returns-3)

@@ -5,7 +5,8 @@ use mathlib.Core.List.{List}
 use native.Mathlib.Omega.{arith}
 use denote.Ref.{now}
 use Rattle.rules.specs.Slot.{wrongSize}
-use Rattle.laws.proofs.ToC.{right-size, refused-size, refused-zero}
+use Rattle.laws.proofs.ToC.{right-size, refused-size, refused-zero, refused-state}
+use Rattle.laws.proofs.Tests.{failed, passed}
 use borrow.Author.Needs.{needs}
 use Rattle.hmt_c.proofs.refusal_before.Statement.{statement}
 use Rattle.hmt_c.proofs.refusal_before.Tie as tie
@@ -41,8 +42,25 @@ returns-2 c =
       some = λ _ table op right. refused-zero _ _ _ table op right (sizes (c .before .before .before)) (c .before .if2 .taken) (c .refused2 .ensures);
     }
 
+good-state-requires : tie.Need-good-state-requires
+good-state-requires c κs = let args = c .before .before .before .before .before .before .args in right-size (now (args .slot)) (now (args .ram)) (sizes (c .before .before)) .0
+
+refused-requires-3 : tie.Need-refused-requires-3
+refused-requires-3 c κs = search needs
+
 returns-3 : tie.Need-returns-3
-returns-3 c = record { none = λ _. record { sizes = sizes (c .before .before); zero = c .if2 .left }; some = λ n. absurd (n (omega arith)) }
+returns-3 c =
+    record {
+      none = λ z. absurd (omega (arith, c .refused3 .ensures));
+      some = λ _ table op right. refused-state _ _ _ table op right (sizes (c .before .before .before .before .before)) (c .before .before .before .if2 .left) (failed (c .before .before .good-state .ensures) (c .before .if3 .taken)) (c .refused3 .ensures);
+    }
+
+returns-4 : tie.Need-returns-4
+returns-4 c =
+    record {
+      none = λ _. record { sizes = sizes (c .before .before .before .before); zero = c .before .before .if2 .left; good = passed (c .before .good-state .ensures) (c .if3 .left) };
+      some = λ n. absurd (n (omega arith));
+    }
 
 pub refusal-before-spec : {M : Type 1} → statement M
 refusal-before-spec =
@@ -54,4 +72,7 @@ refusal-before-spec =
     shared-slice-read-if2
     refused-requires-2
     returns-2
-    returns-3)
+    good-state-requires
+    refused-requires-3
+    returns-3
+    returns-4)

@@ -9,14 +9,11 @@ use Rattle.map.proofs.bytes_alike.Statement.{statement}
 use Rattle.map.proofs.bytes_alike.Tie as tie
 
 abbrev Inv-loop : tie.InvT-loop
-Inv-loop ram n byte first to at₀ at =
-    (first ≤ at) × (at ≤ to) × ((j : ℕ) → first ≤ j → j < at → getD ram j 0 ≡ byte)
+Inv-loop from ram n byte to at₀ at =
+    (from .0 ≤ at) × (at ≤ to) × ((j : ℕ) → from .0 ≤ j → j < at → getD ram j 0 ≡ byte)
 
 abbrev μ-loop : tie.MeasureT-loop
-μ-loop ram n byte first to at₀ at = to - at
-
-cast-first : tie.Need-cast-first Inv-loop μ-loop
-cast-first c = search needs
+μ-loop from ram n byte to at₀ at = to - at
 
 add-to : tie.Need-add-to Inv-loop μ-loop
 add-to c = omega arith
@@ -24,21 +21,21 @@ add-to c = omega arith
 loop-holds : tie.Need-loop-holds Inv-loop μ-loop
 loop-holds c = (omega arith, omega arith, λ j l u. absurd (omega arith))
 
+cast-if1 : tie.Need-cast-if1 Inv-loop μ-loop
+cast-if1 c = search needs
+
 shared-slice-read-if1 : tie.Need-shared-slice-read-if1 Inv-loop μ-loop
 shared-slice-read-if1 c = omega (arith, c .before .before .before .before .pre .0)
 
 sub-result : tie.Need-sub-result Inv-loop μ-loop
 sub-result c = omega arith
 
-cast-result : tie.Need-cast-result Inv-loop μ-loop
-cast-result c = omega arith
-
 returns : tie.Need-returns Inv-loop μ-loop
 returns c =
-    let inv = c .before .before .before .loop .inv in
-    let first = c .before .before .before .before .before .args .from .0 in
-    let here : first + (c .before .before .before .loop .at - first) ≡ c .before .before .before .loop .at = omega arith in
-    rw here (omega arith, (inv .2, λ h. c .if1 .taken))
+    let l = c .before .before .before .before .loop in
+    let first = c .before .before .before .before .before .before .args .from .0 in
+    let here : first + (l .at - first) ≡ l .at = omega arith in
+    rw here (omega arith, (l .inv .2, λ h. c .before .if1 .taken))
 
 add-at : tie.Need-add-at Inv-loop μ-loop
 add-at c = omega arith
@@ -55,4 +52,4 @@ returns-2 : tie.Need-returns-2 Inv-loop μ-loop
 returns-2 c = (omega arith, (λ j l u. c .before .loop .inv .2 j l (omega arith), λ h. absurd (omega arith)))
 
 pub bytes-alike-spec : {M : Type 1} → statement M
-bytes-alike-spec = tie.close (tie.spec Inv-loop μ-loop cast-first add-to loop-holds shared-slice-read-if1 sub-result cast-result returns add-at loop-less loop-again returns-2)
+bytes-alike-spec = tie.close (tie.spec Inv-loop μ-loop add-to loop-holds cast-if1 shared-slice-read-if1 sub-result returns add-at loop-less loop-again returns-2)

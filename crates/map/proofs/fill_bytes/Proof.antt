@@ -25,16 +25,17 @@ both-requires : tie.Need-both-requires Inv-loop μ-loop
 unfolding radix
 both-requires c κs = c .before .pre .1 .1
 
-cast-at : tie.Need-cast-at Inv-loop μ-loop
-cast-at c = search needs
-
 add-end : tie.Need-add-end Inv-loop μ-loop
 add-end c = omega arith
 
 loop-holds : tie.Need-loop-holds Inv-loop μ-loop
 loop-holds c =
-    let left : c .before .before .before .args .from .0 + c .before .before .before .args .n - c .before .before .before .args .from .0 ≡ c .before .before .before .args .n = omega arith in
-    rw left (omega arith, refl, λ i. c .before .before .slice-known .given i .fits, refl)
+    let args = c .before .before .args in
+    let left : args .from .0 + args .n - args .from .0 ≡ args .n = omega arith in
+    rw left (omega arith, refl, λ i. c .before .slice-known .given i .fits, refl)
+
+cast-ram : tie.Need-cast-ram Inv-loop μ-loop
+cast-ram c = search needs
 
 slice-write-ram : tie.Need-slice-write-ram Inv-loop μ-loop
 slice-write-ram c = omega (arith, c .before .loop .inv .1)
@@ -50,11 +51,12 @@ unfolding radix perByte
 loop-again c =
     let inv = c .before .loop .inv in
     let at = c .before .loop .at in
-    let end = c .before .before .before .before .before .args .from .0 + c .before .before .before .before .before .args .n in
-    let code = c .before .before .before .before .before .args .code in
+    let args = c .before .before .before .before .args in
+    let end = args .from .0 + args .n in
+    let code = args .code in
     let left : end - at ≡ suc (end - (at + 1)) = omega arith in
     let inside : at < length (c .before .loop .ram) = omega (arith, inv .1) in
-    let made = c .before .before .before .both .ensures in
+    let made = c .before .before .both .ensures in
     (omega arith, simp length-set (inv .1), rw made (bytes-stay (c .before .loop .ram) at (code * 16 + code) inside (omega arith) (inv .2)), inv .3 ∙ rw (left, made) (bytes-next (c .before .loop .ram) at (end - (at + 1)) code inside (inv .2 at) (omega arith)))
 
 same-length : tie.Need-same-length Inv-loop μ-loop
@@ -63,8 +65,9 @@ same-length c = c .before .loop .inv .1
 returns : tie.Need-returns Inv-loop μ-loop
 unfolding setCodes perByte
 returns c =
-    let none : c .before .before .before .before .before .args .from .0 + c .before .before .before .before .before .args .n - c .before .loop .at ≡ 0 = omega arith in
+    let args = c .before .before .before .before .args in
+    let none : args .from .0 + args .n - c .before .loop .at ≡ 0 = omega arith in
     sym (rw none at (c .before .loop .inv .3))
 
 pub fill-bytes-spec : {M : Type 1} → statement M
-fill-bytes-spec = tie.close (tie.spec Inv-loop μ-loop both-requires cast-at add-end loop-holds slice-write-ram add-at loop-less loop-again same-length returns)
+fill-bytes-spec = tie.close (tie.spec Inv-loop μ-loop both-requires add-end loop-holds cast-ram slice-write-ram add-at loop-less loop-again same-length returns)
