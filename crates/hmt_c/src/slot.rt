@@ -86,7 +86,7 @@ fn rising(slot: &[u8]) -> bool
         } else if start != end {
             return false;
         }
-        at += 4;
+        at += RANGE_BYTES;
     }
     let start = word_at(slot, TRUSTED);
     let end = word_at(slot, TRUSTED_END);
