@@ -178,7 +178,7 @@ static inline void hmt_put_entry(uint8_t *table, unsigned word, uint16_t entry)
     hmt_put(table, 2 * word, entry);
 }
 
-/* ---- set-up and the six operations ------------------------------------ */
+/* ---- set-up and the operations ---------------------------------------- */
 
 /*
  * Judges the configuration in the slot (the state's bytes are not looked at),

@@ -119,7 +119,7 @@ static bool room(struct maker *g, size_t bytes)
     return !g->full;
 }
 
-/* The six operations: written and run along. 99 if there is no room. */
+/* The operations: written and run along. 99 if there is no room. */
 static unsigned store(struct maker *g, unsigned address, unsigned byte)
 {
     if (!room(g, 4))

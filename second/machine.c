@@ -93,7 +93,7 @@ static bool state_good(const struct machine_state *s)
         && s->pointer >= c->safe && s->pointer <= c->top;
 }
 
-/* Section 6, numbers 1 and 3, which come first in all six operations. */
+/* Section 6, numbers 1 and 3, which come first in all operations. */
 static uint16_t first_refusal(const struct machine_state *s, bool lengths_right)
 {
     return !lengths_right ? 1 : !state_good(s) ? 3 : 0;

@@ -8,6 +8,7 @@ ghost use Rattle.rules.specs.State.{ramByte};
 ghost use Rattle.rules.specs.Bytes.{wordAt};
 
 pub mod config;
+pub mod numbers;
 
 use rules::FlashWord;
 use rules::RamByte;

@@ -2,9 +2,9 @@
 ghost use mathlib.Core.Path.{_≡_};
 ghost use Rattle.rules.specs.Slot.{packed};
 ghost use Rattle.rules.specs.declared.Answer.the-variants.{Refused};
+use codec::numbers::number_of;
 use rules::Answer;
 use rules::Refusal;
-use runtime::numbers::number_of;
 
 pub fn refused(refusal: Refusal) -> u32
     ensures { λ r. ⌜ r ≡ packed (Refused refusal) ⌝ }

@@ -1,4 +1,4 @@
-// Document 02, Ask 1: set-up and the six operations, callable from C on numbers and byte slices. The state sits in a slot of 48 bytes.
+// Document 02, Ask 1: set-up and the operations, callable from C on numbers and byte slices. The state sits in a slot of 48 bytes.
 ghost use mathlib.Core.Path.{_≡_};
 ghost use Rattle.rules.specs.Code.{flashWord};
 ghost use Rattle.rules.specs.State.{ramByte};

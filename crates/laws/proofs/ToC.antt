@@ -2,7 +2,7 @@
 -- Assumes nothing.
 use Prim.Native.Nat.{ℕ}
 use mathlib.Core.Path.{_≡_, refl, sym, _∙_}
-use mathlib.Core.Bool.{Bool, true, false, not, _||_, or-true}
+use mathlib.Core.Bool.{Bool, true, false, not, _||_, and-false, or-true}
 use mathlib.Core.List.{List, [], _∷_, _++_}
 use native.Mathlib.Omega.{arith}
 use lib.ListN.{length, getD}
@@ -13,7 +13,6 @@ use Rattle.rules.specs.declared.Config.{Config}
 use Rattle.rules.specs.declared.State.{State}
 use Rattle.rules.specs.declared.Outcome.{Outcome}
 use Rattle.rules.specs.declared.Operation.{Operation}
-use Rattle.rules.specs.declared.Operation.the-variants.{Store, Call, Return, Malloc, Free, Change}
 use Rattle.rules.specs.declared.Answer.{Answer}
 use Rattle.rules.specs.declared.Answer.the-variants.{Done, Refused}
 use Rattle.rules.specs.declared.Refusal.the-variants.{WrongSize, BadState}
@@ -22,9 +21,9 @@ use Rattle.rules.specs.Code.{tableWords}
 use Rattle.rules.specs.State.{goodState, fresh, zeros}
 use Rattle.rules.specs.Answers.{Given, Gives, give}
 use Rattle.rules.specs.SetUp.{setUpAnswer, setUpRam, setUpOf}
-use Rattle.rules.specs.Operations.{lending, nothing, wrongLent, seenBy, stateAfter, ramAfter, answerBy, operationOf}
-use Rattle.rules.specs.Slot.{slotBytes, runPart, zeroPart, configIn, stateIn, runAsBytes, slotOf, packed, GivesToC, toC, wrongSize, cSetUpOf, tableIn, wrongTable, cOperation, cOperationOf}
-use Rattle.laws.proofs.Tests.{neither}
+use Rattle.rules.specs.Operations.{lending, nothing, lentTable, wrongLent, seenBy, stateAfter, ramAfter, answerBy, operationOf}
+use Rattle.rules.specs.Slot.{slotBytes, runPart, zeroPart, configIn, stateIn, runAsBytes, slotOf, packed, GivesToC, toC, wrongSize, cSetUpOf, tableBytes, tableIn, wrongTable, cOperation, cOperationOf}
+use Rattle.laws.proofs.Tests.{both, neither}
 use Rattle.laws.proofs.Bytes.{Bytes, length-wordsAt}
 use Rattle.laws.proofs.Slot.{slotOf-stateIn, slotOf-over, slotOf-changed}
 use Rattle.laws.proofs.Operations.{config-stays}
@@ -47,21 +46,11 @@ right-size slot ram h =
 
 -- the words of a table of bytes are as many as are wanted
 pub right-table : (table : List ℕ) (op : Operation) → wrongLent (lending (tableIn table)) op ≡ false
-right-table table (Store a b) = refl
-right-table table (Call t site p) = rw (eq-eqb (length (tableIn table)) tableWords (length-wordsAt table 0 tableWords)) refl
-right-table table Return = refl
-right-table table (Malloc size) = refl
-right-table table (Free a) = refl
-right-table table (Change a d) = refl
+right-table table op = rw (eq-eqb (length (tableIn table)) tableWords (length-wordsAt table 0 tableWords)) (and-false (lentTable op))
 
 -- and where a table of bytes is wrong, so is no table
 pub no-table : (table : List ℕ) (op : Operation) → wrongTable table op ≡ true → wrongLent nothing op ≡ true
-no-table table (Store a b) h = h
-no-table table (Call t site p) h = refl
-no-table table Return h = h
-no-table table (Malloc size) h = h
-no-table table (Free a) h = h
-no-table table (Change a d) h = h
+no-table table op h = rw (both (lentTable op) (not (eqb (length table) tableBytes)) h .0)
 
 -- lengths, byte 47 and the state are good
 pub record Ready (slot ram : List ℕ) : Type 0 where

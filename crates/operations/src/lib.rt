@@ -1,4 +1,4 @@
-// What set-up and the six operations do once RAM has its length and the configuration or the state is good: the rows below the first two, for a
+// What set-up and the operations do once RAM has its length and the configuration or the state is good: the rows below the first two, for a
 // return below 13. The runtime and the layer for C make those tests, each on the state as it comes to them.
 ghost use mathlib.Core.Path.{_≡_};
 ghost use mathlib.Core.Bool.{true};
@@ -48,7 +48,7 @@ pub fn set_up(config: Config, ram: &mut [u8]) -> Outcome
     }
 }
 
-// Section 5: the six operations.
+// Section 5: the operations.
 pub fn store(state: State, ram: &mut [u8], address: RamByte, byte: u8) -> Outcome
     requires { ⌜ (length (now ram) ≡ ramBytes) × (goodState state ≡ true) ⌝ }
     ensures { λ r. ⌜ Gives r (now (ram .exit)) (storeOf state (now (ram .entry)) address byte) ⌝ }

@@ -30,7 +30,7 @@ ownNumbers (Malloc size) = 15 ∷ 16 ∷ 17 ∷ []
 ownNumbers (Free a) = 18 ∷ 19 ∷ []
 ownNumbers (Change a d) = 18 ∷ 19 ∷ 20 ∷ []
 
--- and with them those that each of the six can be given
+-- and with them those that each operation can be given
 abbrev pub numbersOf : Operation → List ℕ
 numbersOf op = 0 ∷ 1 ∷ 3 ∷ ownNumbers op
 

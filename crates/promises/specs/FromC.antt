@@ -22,7 +22,7 @@ pub record AskedFromC : Type 0 where
   pub operation : Operation
   pub table : List ℕ
 
--- what it gives on a slot and RAM: the right-hand sides of the six contracts
+-- what it gives on a slot and RAM: the right-hand sides of the contracts
 abbrev pub stepFromC : List ℕ → List ℕ → AskedFromC → GivenToC
 stepFromC slot ram o = cOperationOf slot ram (o .table) (o .operation)
 

@@ -59,6 +59,6 @@ abbrev pub give : Answer → State → List ℕ → State → List ℕ → Given
 give (Done v) s ram s′ ram′ = record { answer = Done v; state = s′; ram = ram′ }
 give (Refused r) s ram s′ ram′ = record { answer = Refused r; state = s; ram = ram }
 
--- the form of the contracts of set-up and the six operations: a function handed back r and left ram, and that is what the rule gives
+-- the form of the contracts of set-up and the operations: a function handed back r and left ram, and that is what the rule gives
 abbrev pub Gives : Outcome → List ℕ → Given → Type 0
 Gives r ram g = (r .answer ≡ g .answer) × (r .state ≡ g .state) × (ram ≡ g .ram)

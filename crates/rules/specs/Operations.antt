@@ -1,6 +1,6 @@
 -- Sections 5 and 6: what any operation gives.
 use Prim.Native.Nat.{ℕ}
-use mathlib.Core.Bool.{Bool, false, not, _||_}
+use mathlib.Core.Bool.{Bool, true, false, not, _&&_, _||_}
 use mathlib.Core.List.{List, []}
 use lib.ListN.{length}
 use lib.Seq.{slice}
@@ -34,13 +34,16 @@ abbrev pub nothing : Lent
 nothing = lending []
 
 -- "in a call also: the jump table is not 1,024 words"
+abbrev pub lentTable : Operation → Bool
+lentTable (Store a b) = false
+lentTable (Call t site p) = true
+lentTable Return = false
+lentTable (Malloc size) = false
+lentTable (Free a) = false
+lentTable (Change a d) = false
+
 abbrev pub wrongLent : Lent → Operation → Bool
-wrongLent l (Store a b) = false
-wrongLent l (Call t site p) = not (eqb (length (l .table)) tableWords)
-wrongLent l Return = false
-wrongLent l (Malloc size) = false
-wrongLent l (Free a) = false
-wrongLent l (Change a d) = false
+wrongLent l op = lentTable op && not (eqb (length (l .table)) tableWords)
 
 -- ---- all that it looks at in RAM: the codes of the map, and the bytes from safe to the safe pointer
 

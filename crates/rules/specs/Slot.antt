@@ -1,7 +1,7 @@
 -- Document 02, Ask 1: the state in a slot of bytes, and what the functions called from C give.
 use Prim.Native.Nat.{ℕ, _+_, _*_}
 use mathlib.Core.Path.{_≡_}
-use mathlib.Core.Bool.{Bool, false, cond, not, _||_}
+use mathlib.Core.Bool.{Bool, cond, not, _&&_, _||_}
 use mathlib.Core.List.{List, [], _∷_, _++_}
 use lib.ListN.{length, getD}
 use lib.Dec.{eqb}
@@ -21,7 +21,7 @@ use Rattle.rules.specs.State.{ramByte}
 use Rattle.rules.specs.Bytes.{wordBytes, wordAt, wordsAt, configBytes, configAt, configAsBytes}
 use Rattle.rules.specs.Answers.{Given, numberOf, valueOf}
 use Rattle.rules.specs.SetUp.{setUpOf}
-use Rattle.rules.specs.Operations.{lending, operationOf}
+use Rattle.rules.specs.Operations.{lending, lentTable, operationOf}
 
 -- ---- the slot
 
@@ -113,12 +113,7 @@ abbrev pub tableIn : List ℕ → List ℕ
 tableIn table = wordsAt table 0 tableWords
 
 abbrev pub wrongTable : List ℕ → Operation → Bool
-wrongTable table (Store a b) = false
-wrongTable table (Call t site p) = not (eqb (length table) tableBytes)
-wrongTable table Return = false
-wrongTable table (Malloc size) = false
-wrongTable table (Free a) = false
-wrongTable table (Change a d) = false
+wrongTable table op = lentTable op && not (eqb (length table) tableBytes)
 
 -- "1 also for a slot or table of another length, 3 also for a byte 47 (from 0) that is not 0": an operation after those two tests
 abbrev pub cOperation : Bool → List ℕ → List ℕ → Given → GivenToC

@@ -1,4 +1,4 @@
-// Set-up and the six operations of document 01. Each gives what its rule gives, refusals included.
+// Set-up and the operations of document 01. Each gives what its rule gives, refusals included.
 ghost use mathlib.Core.Path.{_≡_};
 ghost use mathlib.Core.Bool.{true};
 ghost use lib.ListN.{length};
@@ -9,7 +9,6 @@ ghost use Rattle.rules.specs.Answers.{Gives};
 ghost use Rattle.rules.specs.SetUp.{setUpOf};
 ghost use Rattle.rules.specs.Operations.{lending, wrongLent, operationOf, storeOf, callOf, returnOf, mallocOf, freeOf, changeOf};
 
-pub mod numbers;
 mod states;
 
 use operations::looked_at::caller;

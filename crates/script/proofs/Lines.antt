@@ -2,6 +2,7 @@
 -- Assumes nothing.
 use Prim.Native.Nat.{ℕ, zero, suc, _+_, _-_, _≤_, _<_}
 use mathlib.Core.Path.{_≡_, refl, sym, ap, _∙_}
+use mathlib.Core.Bool.{Bool, true, false, cond}
 use mathlib.Core.List.{List, [], _++_}
 use native.Mathlib.Omega.{arith}
 use native.Mathlib.Numerals.{sub-one}
@@ -34,15 +35,21 @@ module _ (input : List ℕ) where
   up-to-within at next op h l =
       byTest (leb next (length input)) (λ t. rw t (h, leb-true next (length input) t)) (λ t. rw t l)
 
+  -- one number's row, above what the others give
+  row-within : (t : Bool) (at next : ℕ) (op : Operation) (below : Read) → at < next → at < length input → Within at below
+      → Within at (cond t (upTo input next op) below)
+  row-within true at next op below h l w = up-to-within at next op h l
+  row-within false at next op below h l w = w
+
   numbered-within : (at number : ℕ) → at < length input → Within at (operationNumbered input at number)
   numbered-within at number l =
-      byTest (eqb number 1) (λ t. rw t (up-to-within at (at + 4) _ (omega arith) l))
-      (λ f₁. byTest (eqb number 2) (λ t. rw (f₁, t) (up-to-within at (at + 7) _ (omega arith) l))
-      (λ f₂. byTest (eqb number 3) (λ t. rw (f₁, f₂, t) (up-to-within at (at + 1) _ (omega arith) l))
-      (λ f₃. byTest (eqb number 4) (λ t. rw (f₁, f₂, f₃, t) (up-to-within at (at + 3) _ (omega arith) l))
-      (λ f₄. byTest (eqb number 5) (λ t. rw (f₁, f₂, f₃, f₄, t) (up-to-within at (at + 3) _ (omega arith) l))
-      (λ f₅. byTest (eqb number 6) (λ t. rw (f₁, f₂, f₃, f₄, f₅, t) (up-to-within at (at + 4) _ (omega arith) l))
-      (λ f₆. rw (f₁, f₂, f₃, f₄, f₅, f₆) l))))))
+      row-within (eqb number 1) at (at + 4) _ _ (omega arith) l
+      (row-within (eqb number 2) at (at + 7) _ _ (omega arith) l
+      (row-within (eqb number 3) at (at + 1) _ _ (omega arith) l
+      (row-within (eqb number 4) at (at + 3) _ _ (omega arith) l
+      (row-within (eqb number 5) at (at + 3) _ _ (omega arith) l
+      (row-within (eqb number 6) at (at + 4) _ _ (omega arith) l
+      l)))))
 
   pub operation-within : (at : ℕ) → Within at (operationAt input at)
   unfolding operationAt

@@ -72,7 +72,7 @@ pub fn run(input: &[u8], out: &mut [u8]) -> usize
     let o = runtime::set_up(header::header_config(input), &mut ram);
     let at = text::put_set_up(out, o);
     let answer = o.answer;
-    if runtime::numbers::number_of(answer) != 0 {
+    if codec::numbers::number_of(answer) != 0 {
         return at;
     }
     let state = o.state;

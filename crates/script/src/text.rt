@@ -4,9 +4,9 @@ ghost use Prim.Native.Nat.{_+_, _≤_, _<_};
 ghost use lib.ListN.{length};
 ghost use Rattle.rules.specs.Script.{space, decimal, lineOf, setUpText};
 ghost use Rattle.script.specs.Text.{Wrote, lineMost, setUpMost, handed};
+use codec::numbers::number_of;
+use codec::numbers::value_of;
 use rules::Outcome;
-use runtime::numbers::number_of;
-use runtime::numbers::value_of;
 
 // The bytes of a text.
 pub fn put_text(out: &mut [u8], start: usize, text: &[u8]) -> usize

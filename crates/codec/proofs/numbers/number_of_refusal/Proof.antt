@@ -1,7 +1,7 @@
--- `runtime::numbers::number_of_refusal` meets its contract. Assumes nothing.
+-- `codec::numbers::number_of_refusal` meets its contract. Assumes nothing.
 use borrow.Author.Needs.{needs}
-use Rattle.runtime.proofs.numbers.number_of_refusal.Statement.{statement}
-use Rattle.runtime.proofs.numbers.number_of_refusal.Tie as tie
+use Rattle.codec.proofs.numbers.number_of_refusal.Statement.{statement}
+use Rattle.codec.proofs.numbers.number_of_refusal.Tie as tie
 
 enum-told : tie.Need-enum-told
 enum-told c = search needs
