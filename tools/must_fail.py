@@ -229,6 +229,9 @@ def failed(text):
 def main():
     began = time.monotonic()
     show = "--facts" in sys.argv
+    if set(word for word in sys.argv[1:] if word.startswith("--")) - {"--fit", "--facts"}:
+        print(__doc__)
+        return 2
     paths = [word for word in sys.argv[1:] if not word.startswith("--")] or sorted(glob.glob(os.path.join(ROOT, "must-fail/*/*.edit")))
     if "--fit" in sys.argv:
         good = list(map(fits, paths))
