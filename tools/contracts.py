@@ -117,7 +117,8 @@ def functions(text):
     for head in re.finditer(r'^\s*pub\s+(?:extern\s+"C"\s+)?fn\s+(\w+)\s*', text, re.M):
         start = text.index("(", head.end())
         end = closing(text, start)
-        given = [[part.strip() for part in p.split(":", 1)] for p in split(text[start + 1 : end], ",")]
+        # a parameter that the body alters (`mut`) is in the contract what was handed over
+        given = [[part.strip() for part in re.sub(r"^\s*mut\s+", "", p).split(":", 1)] for p in split(text[start + 1 : end], ",")]
         rest = re.match(r"\s*(->\s*(?:[^{;\[]|\[[^\]]*\])*?)?\s*(?=\w+\s*\{|\{)", text[end + 1 :])
         if not rest:
             raise ValueError(f"{head.group(1)}: its head cannot be read")

@@ -493,7 +493,7 @@ pub fn next(k: Word, n: u16) -> Word
     ensures { λ r. ⌜ r ≡ word (k .0 + n) ⌝ }
 { }
 
-pub fn most(n: u16) -> u16
+pub fn most(mut n: u16) -> u16
     ensures { λ r. ⌜ (r ≡ n) × ((j : ℕ) → j < n → j < r) ⌝ }
 { }
 

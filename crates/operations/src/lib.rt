@@ -67,7 +67,7 @@ pub fn store(state: State, ram: &mut [u8], address: RamByte, byte: u8) -> Outcom
 // or one past the tables, looks at the first alone. A frame is written to the safe stack area, which is lent to the frame writer, and to no
 // other byte. A refusal is made anew: to hand on the answer that was matched on costs more.
 pub fn call_with(
-    state: State,
+    mut state: State,
     ram: &mut [u8],
     code: Range,
     called: Range,
@@ -86,18 +86,14 @@ pub fn call_with(
             let safe = config.safe.0 as usize;
             let top = config.top.0 as usize;
             let used = state.safepointer.0 - config.safe.0;
-            let mut state = state;
             if target.0 < config.jt.0 {
                 frames::push(&mut ram[safe..top], used, Frame::Local(site));
                 state.safepointer = address::above(state.safepointer, frames::LOCAL_BYTES);
                 return Outcome { answer, state };
             }
             let bound = state.bound;
-            frames::push(
-                &mut ram[safe..top],
-                used,
-                Frame::Cross(site, bound, state.domain),
-            );
+            let frame = Frame::Cross(site, bound, state.domain);
+            frames::push(&mut ram[safe..top], used, frame);
             state.domain = call_check::called_domain(config, target);
             state.bound = pointer;
             state.safepointer = address::above(state.safepointer, frames::CROSS_BYTES);
