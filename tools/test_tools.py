@@ -696,6 +696,8 @@ class MustFail(unittest.TestCase):
             self.edit(folder, "unfit", fact, "    9", "    7")
             self.edit(folder, "not-compiled", fact, "    8", "    true")
             self.edit(folder, "type", "type: expected `usize`, found `bool`", "    8", "    true")
+            unknown = subprocess.run([sys.executable, f"{folder}/tools/must_fail.py", "--fits"], capture_output=True, text=True)
+            self.assertEqual((unknown.returncode, unknown.stdout.splitlines()[0][:12]), (2, "must_fail.py"))
             run = subprocess.run([sys.executable, f"{folder}/tools/must_fail.py"], capture_output=True, text=True)
         for line in ("refused: refused, as it must be, by one at proofs/eight/Proof.antt returns", "accepted: FAILED: NOT REFUSED: one is still proved",
                      "unfit: FAILED: it does not fit: crates/one/src/lib.rt has 0 times:     9", "not-compiled: FAILED: it did not reach the prover (exit 1)",

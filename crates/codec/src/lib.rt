@@ -1,5 +1,5 @@
 // Numbers that come in as bytes, "low byte first": sixteen bits at a place, as a number or as one of the kinds of address. The addresses
-// are made by crate `address`; this crate makes none itself.
+// are made by crate `address`; this crate makes none itself. And an answer as the numbers that go out (`numbers`).
 ghost use mathlib.Core.Path.{_≡_};
 ghost use Prim.Native.Nat.{_+_, _<_};
 ghost use lib.ListN.{length};

@@ -11,7 +11,7 @@ use address::domains::is_domain;
 use rules::Config;
 use rules::State;
 
-// Section 2's rules; two addresses at a time, so that a wrong one is refused soon.
+// Section 2's rules. The multiples stand here once more: made a part of this, bounds::multiples loads all four addresses before the first test.
 pub fn good_bounds(config: Config) -> bool
     ensures { λ r. ⌜ r ≡ (multiples config && botBelowTop config && mapBelowHeap config && heapBelowSafe config && safeBelowTop config && topInRam config) ⌝ }
 {

@@ -47,7 +47,7 @@ fn apart_from(config: Config, range: Range, from: u8) -> bool
     true
 }
 
-// Each ordered, below jt and apart from those after it, in whatever order they lie.
+// Each ordered, ending at jt at the latest, and apart from those after it, in whatever order they lie.
 pub fn in_any_order(config: Config) -> bool
     ensures { λ r. ⌜ r ≡ (rangesOrdered config && rangesApart config) ⌝ }
 {

@@ -184,7 +184,8 @@ pub fn good_config(slot: &[u8]) -> bool
     unusual(slot)
 }
 
-// Whether the state in the slot is good.
+// Whether the state in the slot is good. `usual` and `unusual` are called from here and from good_config, not through a function of both: with one
+// caller each they would be made a part of it, and the usual call would save registers for the unusual one.
 pub fn good_state(slot: &[u8]) -> bool
     requires { ⌜ length (now slot) ≡ slotBytes ⌝ }
     ensures { λ r. ⌜ r ≡ goodState (stateIn (now (slot .entry))) ⌝ }

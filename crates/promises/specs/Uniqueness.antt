@@ -61,8 +61,6 @@ pub record Uniqueness : Type 1 where
   pub free : (state : State) (ram : List ℕ) (address : RamByte) → Only2 (λ r ram′. Gives r ram′ (freeOf state ram address))
   pub change : (state : State) (ram : List ℕ) (address : RamByte) (domain : ℕ)
       → Only2 (λ r ram′. Gives r ram′ (changeOf state ram address domain))
-  pub «number_of» : (answer : Answer) → Only (λ r. r ≡ numberOf answer)
-  pub «value_of» : (answer : Answer) → Only (λ r. r ≡ valueOf answer)
   -- the others of crates/operations; `tableOf` is a table that has one word everywhere, `callerOf` the domain that a frame returns to
   pub «call_with» : (tableOf : ℕ → List ℕ) (state : State) (ram : List ℕ) (code called : Range) (word : ℕ) (target site : FlashWord) (pointer : RamByte)
       → Only2 (λ r ram′. Gives r ram′ (callOf state ram (tableOf word) target site pointer))
@@ -116,6 +114,8 @@ pub record Uniqueness : Type 1 where
   pub «range_at» : (bytes : List ℕ) (at : ℕ) → Only (λ r. r ≡ rangeAt bytes at)
   pub «code_range» : (bytes : List ℕ) (at domain : ℕ) → Only (λ r. r ≡ rangeOf (configAt bytes at) domain)
   pub «config_at» : (bytes : List ℕ) (at : ℕ) → Only (λ r. r ≡ configAt bytes at)
+  pub «number_of» : (answer : Answer) → Only (λ r. r ≡ numberOf answer)
+  pub «value_of» : (answer : Answer) → Only (λ r. r ≡ valueOf answer)
   -- crates/frames
   pub low : (n : ℕ) → Only (λ r. r ≡ low n)
   pub high : (n : ℕ) → Only (λ r. r ≡ high n)

@@ -33,7 +33,7 @@ lending table = record { table = table }
 abbrev pub nothing : Lent
 nothing = lending []
 
--- "in a call also: the jump table is not 1,024 words"
+-- only a call is lent a table
 abbrev pub lentTable : Operation → Bool
 lentTable (Store a b) = false
 lentTable (Call t site p) = true
@@ -42,6 +42,7 @@ lentTable (Malloc size) = false
 lentTable (Free a) = false
 lentTable (Change a d) = false
 
+-- "in a call also: the jump table is not 1,024 words"
 abbrev pub wrongLent : Lent → Operation → Bool
 wrongLent l op = lentTable op && not (eqb (length (l .table)) tableWords)
 

@@ -1,5 +1,5 @@
 -- `good::ranges::in_any_order` meets its contract. Assumes nothing.
-use Prim.Native.Nat.{_-_, _≤_}
+use Prim.Native.Nat.{_-_}
 use mathlib.Core.Path.{_≡_, refl, sym, _∙_}
 use mathlib.Core.Bool.{_&&_, and-false}
 use native.Mathlib.Omega.{arith}
