@@ -95,12 +95,6 @@ static unsigned site(unsigned d)
     return hmt_get(slot, HMT_SLOT_START(d)) + 50u;
 }
 
-/* The site of a call that is the last word of a domain's code. */
-static unsigned last_site(unsigned d)
-{
-    return hmt_get(slot, HMT_SLOT_END(d));
-}
-
 static void must(uint32_t answer)
 {
     if (HMT_NUMBER(answer) != 0) {
@@ -109,16 +103,11 @@ static void must(uint32_t answer)
     }
 }
 
-static void call(unsigned target, unsigned from, unsigned pointer)
+static void call_into(unsigned from, unsigned to, unsigned pointer)
 {
-    must(plain.call(UNIT, table, sizeof table, (uint16_t)target,
-        (uint16_t)from, (uint16_t)pointer));
-}
-
-/* The target that enters a domain. */
-static unsigned into(unsigned d)
-{
-    return 4096 + HMT_TABLE_WORD(d, 0);
+    must(plain.call(UNIT, table, sizeof table,
+        (uint16_t)(4096 + HMT_TABLE_WORD(to, 0)), (uint16_t)site(from),
+        (uint16_t)pointer));
 }
 
 static void take(unsigned bytes, unsigned times)
@@ -131,9 +120,7 @@ enum state {
     FRESH,      /* after set-up */
     MODULE,     /* domain 0 runs; the heap as below */
     LOCAL,      /* the same, one local call deep */
-    LAST_LOCAL, /* the same, by a call that is the last word of its code */
-    LAST_CROSS, /* as MODULE, and by such a call in domain 1 */
-    FULL,       /* as MODULE, no room for a frame */
+    FULL,       /* the same, no room for a frame */
     DAMAGED,    /* the same, the newest frame's tag is 9 */
     BYTE_47,    /* the same, byte 47 is 1 */
     OVERLAP,    /* the same, ranges 6 and 7 share a word */
@@ -159,10 +146,10 @@ static void make_state(enum state state, enum layout layout)
         slot[HMT_SLOT_HEAP] = 4;
     if (state == FRESH || state == SKEW)
         return;
-    call(into(0), site(HMT_TRUSTED), 4000);
+    call_into(HMT_TRUSTED, 0, 4000);
     take(8, 1);
     take(64, 1);
-    call(into(1), site(0), 3900);
+    call_into(0, 1, 3900);
     take(24, 1);
     must(plain.back(UNIT));
     take(8, 40);
@@ -170,13 +157,11 @@ static void make_state(enum state state, enum layout layout)
         must(plain.give_back(UNIT, (uint16_t)(608 + 8 * i)));
     take(192, 1);
     if (state == LOCAL)
-        call(site(0), site(0), 0);
-    if (state == LAST_LOCAL)
-        call(site(0), last_site(0), 0);
-    if (state == LAST_CROSS)
-        call(into(1), last_site(0), 3900);
+        must(plain.call(UNIT, table, sizeof table, (uint16_t)site(0),
+            (uint16_t)site(0), 0));
     while (state == FULL && hmt_get(slot, HMT_SLOT_POINTER) + 3 <= 2048)
-        call(site(0), site(0), 0);
+        must(plain.call(UNIT, table, sizeof table, (uint16_t)site(0),
+            (uint16_t)site(0), 0));
     if (state == DAMAGED)
         ram[hmt_get(slot, HMT_SLOT_POINTER) - 1] = 9;
     if (state == BYTE_47)
@@ -221,8 +206,6 @@ static const struct test_case cases[] = {
     CASE(STORE, "above the bound", 6, MODULE, 4001, 1, 0),
     CASE(CALL, "local", 0, MODULE, 150, 160, 0),
     CASE(CALL, "cross-domain", 0, MODULE, 4096 + 128, 150, 3900),
-    CASE(CALL, "local, the last word", 0, MODULE, 150, 200, 0),
-    CASE(CALL, "cross-domain, the last word", 0, MODULE, 4096 + 128, 200, 3900),
     SHORT_SLOT(CALL),
     CASE(CALL, "byte 47 is 1", 3, BYTE_47, 150, 160, 0),
     CASE(CALL, "site outside", 7, MODULE, 150, 250, 0),
@@ -237,8 +220,6 @@ static const struct test_case cases[] = {
     CASE(RETURN, "byte 47 is 1", 3, BYTE_47, 0, 0, 0),
     CASE(RETURN, "no call open", 13, FRESH, 0, 0, 0),
     CASE(RETURN, "damaged tag", 14, DAMAGED, 0, 0, 0),
-    CASE(RETURN, "local, to the end of code", 21, LAST_LOCAL, 0, 0, 0),
-    CASE(RETURN, "cross-domain, to the end of code", 21, LAST_CROSS, 0, 0, 0),
     CASE(MALLOC, "1 block, the 13th of the heap", 0, MODULE, 8, 0, 0),
     CASE(MALLOC, "2 blocks, after 76 others", 0, MODULE, 16, 0, 0),
     CASE(MALLOC, "24 blocks, after 76 others", 0, MODULE, 192, 0, 0),

@@ -233,8 +233,7 @@ static uint32_t plain_call(uint8_t *ram, size_t ram_len,
     domain = slot[DOMAIN];
     start = word(slot + RANGES + 4 * domain);
     end = word(slot + RANGES + 4 * domain + 2);
-    /* the end of a range that is not empty is a site too, though seldom met */
-    if ((site < start || site >= end) && (site != end || start == end))
+    if (site < start || site >= end)
         REFUSE(7);
     jt = word(slot + JT);
     top = word(slot + TOP);
@@ -271,22 +270,10 @@ static uint32_t plain_call(uint8_t *ram, size_t ram_len,
     return entry;
 }
 
-/* A frame whose site is no word of the domain's code: it is that of a call
-   which was the last word, or damaged. By itself, so that a return that is done
-   keeps no register for it. */
-static uint32_t __attribute__((noinline)) no_code(const uint8_t *slot,
-    unsigned domain, unsigned site)
-{
-    unsigned start = word(slot + RANGES + 4 * domain);
-    unsigned end = word(slot + RANGES + 4 * domain + 2);
-
-    REFUSE(site == end && start != end ? 21 : 14);
-}
-
 static uint32_t plain_return(uint8_t *ram, size_t ram_len,
     uint8_t *slot, size_t slot_len)
 {
-    unsigned safe_pointer, used, tag, domain, start, end, site, bound;
+    unsigned safe_pointer, used, tag, domain, site, bound;
 
     CHECK_STATE(ram_len == RAM && slot_len == SLOT);
     safe_pointer = word(slot + POINTER);
@@ -300,10 +287,9 @@ static uint32_t plain_return(uint8_t *ram, size_t ram_len,
         safe_pointer -= 3;
         site = word(ram + safe_pointer);
         domain = slot[DOMAIN];
-        start = word(slot + RANGES + 4 * domain);
-        end = word(slot + RANGES + 4 * domain + 2);
-        if (site < start || site >= end)
-            return no_code(slot, domain, site);
+        if (site < word(slot + RANGES + 4 * domain)
+            || site >= word(slot + RANGES + 4 * domain + 2))
+            REFUSE(14);
         put_word(slot + POINTER, safe_pointer);
         return site;
     }
@@ -312,12 +298,10 @@ static uint32_t plain_return(uint8_t *ram, size_t ram_len,
     safe_pointer -= 5;
     site = word(ram + safe_pointer);
     bound = word(ram + safe_pointer + 2);
-    start = word(slot + RANGES + 4 * tag);
-    end = word(slot + RANGES + 4 * tag + 2);
-    if (bound < word(slot + BOUND) || bound >= RAM)
+    if (site < word(slot + RANGES + 4 * tag)
+        || site >= word(slot + RANGES + 4 * tag + 2)
+        || bound < word(slot + BOUND) || bound >= RAM)
         REFUSE(14);
-    if (site < start || site >= end)
-        return no_code(slot, tag, site);
     put_word(slot + BOUND, bound);
     put_word(slot + POINTER, safe_pointer);
     slot[DOMAIN] = (uint8_t)tag;

@@ -67,21 +67,20 @@ enum hmt_number {
     HMT_NOT_RAM           = 4,  /* address above 4095 */
     HMT_NOT_YOURS         = 5,  /* below bot, or a block of another owner */
     HMT_ABOVE_BOUND       = 6,  /* stack byte of a caller */
-    HMT_SITE_OUTSIDE      = 7,  /* return site not in the code, nor its end */
+    HMT_SITE_OUTSIDE      = 7,  /* return site not in the current code range */
     HMT_TARGET_OUTSIDE    = 8,  /* local target not in the current code range */
     HMT_PAST_TABLES       = 9,  /* target at or above jt + 1024 */
     HMT_BAD_ENTRY         = 10, /* table entry 0 or not in its domain's code */
     HMT_BAD_POINTER       = 11, /* stack pointer not from top - 1 to bound */
     HMT_SAFE_STACK_FULL   = 12, /* the frame would pass top */
     HMT_SAFE_STACK_EMPTY  = 13, /* no call is open */
-    HMT_DAMAGED_FRAME     = 14, /* no call can have made the newest frame */
+    HMT_DAMAGED_FRAME     = 14, /* the newest frame can't be one */
     HMT_TRUSTED_MALLOC    = 15, /* malloc by the trusted domain */
     HMT_SIZE_ZERO         = 16, /* malloc of 0 bytes */
     HMT_NO_ROOM           = 17, /* no run of free blocks is long enough */
     HMT_NO_SEGMENT        = 18, /* no heap segment starts at the address */
     HMT_NOT_OWNER         = 19, /* the segment is another domain's */
-    HMT_BAD_DOMAIN        = 20, /* new domain above 6 */
-    HMT_NO_CODE           = 21  /* return to the end of a code range */
+    HMT_BAD_DOMAIN        = 20  /* new domain above 6 */
 };
 
 /* ---- the slot --------------------------------------------------------- */
@@ -210,12 +209,8 @@ uint32_t hmt_store(uint8_t *ram, size_t ram_len,
  * becomes current and may use the stack up to the pointer. Value: the word to
  * go on at (the target, or its table entry).
  *
- * A call may be the last word of its domain's code, if the routine that it
- * calls never returns. Its site is then the end of the code range.
- *
  * Refusals: 1 ram_len, slot_len or table_len is another; 3 the state is not
- * good; 7 the site is neither in the current code range nor, where that is
- * not empty, its end; 8 a local target is outside the current code range;
+ * good; 7 the site is outside the current code range; 8 so is a local target;
  * 9 target at or above jt + 1024; 10 the entry is 0 or outside the code range
  * of its domain; 11 not top - 1 <= pointer <= bound; 12 the frame (3 bytes,
  * or 5 across domains) would pass top.
@@ -230,11 +225,7 @@ uint32_t hmt_call(uint8_t *ram, size_t ram_len,
  * domain and its bound are current again. Value: the word to go on at.
  *
  * Refusals: 1 ram_len or slot_len is another; 3 the state is not good; 13 no
- * call is open; 14 the frame is damaged: no call can have made it; 21 its site
- * is the end of the code range of the domain returned to, where none of that
- * code stands. 21 means that the call was the last word of its domain's code
- * and that the routine called, which must never return, tries to: the frame
- * stays, and every further return from it is refused too.
+ * call is open; 14 the frame is damaged.
  */
 uint32_t hmt_return(uint8_t *ram, size_t ram_len,
     uint8_t *slot, size_t slot_len);

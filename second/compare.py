@@ -24,14 +24,13 @@ HERE = os.path.dirname(os.path.abspath(__file__))
 OPERATIONS = {1: ("store", 4), 2: ("call", 7), 3: ("return", 1),
               4: ("malloc", 3), 5: ("free", 3), 6: ("change", 4)}
 
-# Section 6 and, for 21, document 02, Ask 2: the numbers that can come in a
-# script. 1 and 3 cannot: there RAM and table have the right length and the
-# state is good once set-up is done.
+# Section 6: the numbers that can come in a script. 1 and 3 cannot: there RAM
+# and table have the right length and the state is good once set-up is done.
 CAN_COME = {
     "setup": (0, 2),
     "store": (0, 4, 5, 6),
     "call": (0, 7, 8, 9, 10, 11, 12),
-    "return": (0, 13, 14, 21),
+    "return": (0, 13, 14),
     "malloc": (0, 15, 16, 17),
     "free": (0, 18, 19),
     "change": (0, 18, 19, 20),

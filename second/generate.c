@@ -264,20 +264,6 @@ static void lay_code(struct maker *g, unsigned jt, unsigned used)
     }
 }
 
-/* Code ranges side by side, each one's end the next one's start, the lowest
-   with word 0. */
-static void lay_side_by_side(struct maker *g, unsigned turn)
-{
-    unsigned i, j;
-
-    for (i = 0; i < MACHINE_DOMAINS; i++) {
-        j = (i + turn) % MACHINE_DOMAINS;
-        g->config.code[j].start = (uint16_t)(100 * i);
-        g->config.code[j].end = (uint16_t)(100 * i + 100);
-    }
-    g->config.jt = 800;
-}
-
 static void add_pair(struct maker *g, unsigned index, unsigned entry)
 {
     if (g->pairs < MOST_PAIRS) {
@@ -398,29 +384,6 @@ static unsigned edge_word(struct maker *g)
     }
 }
 
-/* Document 02, Ask 2: no return leaves a frame whose site is the end of a
-   range; domain 7 has to mend it. Is there room for a frame of that kind and
-   for a call into domain 7 above it? */
-static bool room_to_mend(const struct maker *g)
-{
-    return g->config.top - g->state.pointer >= 10;
-}
-
-/* A return site at or beside an end of the current code range. Its end passes
-   (document 02, Ask 2), so it is left out where it could not be mended, else
-   the rest of the script would be stuck. */
-static unsigned edge_site(struct maker *g)
-{
-    unsigned end = g->config.code[g->state.domain].end, site;
-
-    switch (below(g, 12)) {
-    case 0: site = end; break;
-    case 1: site = end + 1; break;
-    default: site = edge_word(g); break;
-    }
-    return site == end && !room_to_mend(g) ? end - 1 : site;
-}
-
 static unsigned edge_target(struct maker *g)
 {
     unsigned jt = g->config.jt, end;
@@ -517,7 +480,7 @@ static unsigned edge_segment(struct maker *g)
 
 /* ---- steps ----------------------------------------------------------- */
 
-/* A word of the current code range; false if the range is empty. */
+/* A site in the current code range; false if the range is empty. */
 static bool own_word(struct maker *g, unsigned *word)
 {
     unsigned start = g->config.code[g->state.domain].start;
@@ -529,24 +492,13 @@ static bool own_word(struct maker *g, unsigned *word)
     return true;
 }
 
-/* A return site that passes: such a word or, now and then, the range's end
-   (document 02, Ask 2), but only while it can be mended. */
-static bool own_site(struct maker *g, unsigned *site)
-{
-    if (!own_word(g, site))
-        return false;
-    if (room_to_mend(g) && percent(g, 4))
-        *site = g->config.code[g->state.domain].end;
-    return true;
-}
-
 /* A cross-domain call into a domain, with a pointer near the bound so that
    stack is left for more. False if no entry is good or the call is refused. */
 static bool go_to(struct maker *g, unsigned domain)
 {
     unsigned from = below(g, WORDS), i, site, gap;
 
-    if (!own_site(g, &site))
+    if (!own_word(g, &site))
         return false;
     gap = g->state.bound + 1u - g->config.top;
     gap = below(g, (gap > 12 ? 12 : gap) + 1);
@@ -565,75 +517,14 @@ static bool go_local(struct maker *g)
 {
     unsigned site, target;
 
-    return own_site(g, &site) && own_word(g, &target)
+    return own_word(g, &site) && own_word(g, &target)
         && call(g, target, site, below(g, 65536)) == 0;
 }
 
-/* From domain 7: stores sixteen bits, low byte first. */
-static void store16(struct maker *g, unsigned address, unsigned number)
-{
-    store(g, address, number % 256);
-    store(g, address + 1, number / 256 % 256);
-}
-
-/* The frame that ends below an address of the safe stack area: where it
-   starts, and the domain it returns to if that is not the one handed in.
-   False if there is none or its tag is damaged. */
-static bool find_frame(const struct maker *g, unsigned end, unsigned *start,
-    unsigned *domain)
-{
-    unsigned used = end - g->config.safe, tag, length;
-
-    if (used == 0)
-        return false;
-    tag = g->ram[end - 1];
-    length = tag == 255 ? 3 : 5;
-    if ((tag >= MACHINE_DOMAINS && tag != 255) || used < length)
-        return false;
-    if (tag != 255)
-        *domain = tag;
-    *start = end - length;
-    return true;
-}
-
-/* Document 02, Ask 2: from domain 7, or from a call into it, the newest frame
-   whose site is the end of a range gets a site inside the range by stores, and
-   perhaps older ones do. False if none was mended. */
-static bool mend(struct maker *g)
-{
-    bool away = g->state.domain != 7, mended = false;
-    unsigned d = 7, at, start;
-
-    if (away && !go_to(g, 7))
-        return false;
-    for (at = g->state.pointer; find_frame(g, at, &start, &d); at = start) {
-        unsigned first = g->config.code[d].start, end = g->config.code[d].end;
-        if (g->ram[start] + 256u * g->ram[start + 1] != end || first == end)
-            continue;
-        store16(g, start, percent(g, 30) ? end - 1
-            : between(g, first, end - 1));
-        mended = true;
-        if (percent(g, 60))
-            break;
-    }
-    if (away)
-        back(g);
-    return mended;
-}
-
-/* Back, after mending if the site is the end of a range. Gives the answer. */
-static unsigned leave(struct maker *g)
-{
-    unsigned number = back(g);
-
-    return number == 21 && mend(g) ? back(g) : number;
-}
-
-/* Back until nothing is left to go back to, or a frame is damaged or has a
-   site that could not be mended. */
+/* Back until nothing is left to go back to or a frame is damaged. */
 static void unwind(struct maker *g)
 {
-    while (leave(g) == 0)
+    while (back(g) == 0)
         ;
 }
 
@@ -698,9 +589,8 @@ static void good_step(struct maker *g)
             go_local(g);
         break;
     default:
-        if (g->state.pointer > g->config.safe && back(g) == 21
-            && percent(g, 40))
-            mend(g);
+        if (g->state.pointer > g->config.safe)
+            back(g);
     }
 }
 
@@ -727,7 +617,7 @@ static void edge_step(struct maker *g)
         break;
     case 2: case 3:
         target = edge_target(g);
-        site = edge_site(g);
+        site = edge_word(g);
         call(g, target, site, edge_stack(g));
         break;
     case 4: back(g); break;
@@ -853,10 +743,10 @@ static void kind_broken(struct maker *g)
 static void kind_edge(struct maker *g)
 {
     struct machine_config *c = &g->config;
-    unsigned i;
+    unsigned i, j;
 
     usual(g);
-    switch (g->place % 25) {
+    switch (g->place % 24) {
     case 0: lay_out(g, 0, 8, 0, ANYWHERE); break;       /* empty heap */
     case 1: lay_out(g, 20, 0, 0, ANYWHERE); break;      /* no safe stack */
     case 2: lay_out(g, 0, 0, 0, ANYWHERE); break;       /* one block in all */
@@ -887,19 +777,15 @@ static void kind_edge(struct maker *g)
         lay_code(g, 1000, 0x80);
         lay_table(g);
         break;
-    case 22:                                    /* a range that has word 0 */
+    case 22:                                    /* ranges side by side, a
+                                                   range that has word 0 */
         g->pairs = 0;
-        lay_side_by_side(g, g->place / 25);
-        lay_table(g);
-        break;
-    case 23:                                    /* 7 has no code, so no site:
-                                                   its start and end is an end
-                                                   or the inside of another */
-        g->pairs = 0;
-        lay_side_by_side(g, below(g, 8));
-        i = 100 * below(g, 9);
-        i = percent(g, 50) || i == 800 ? i : i + between(g, 1, 99);
-        c->code[7].start = c->code[7].end = (uint16_t)i;
+        for (i = 0; i < MACHINE_DOMAINS; i++) {
+            j = (i + g->place / 24) % MACHINE_DOMAINS;
+            c->code[j].start = (uint16_t)(100 * i);
+            c->code[j].end = (uint16_t)(100 * i + 100);
+        }
+        c->jt = 800;
         lay_table(g);
         break;
     default:                                    /* one-word ranges */
@@ -969,14 +855,6 @@ static void kind_nesting(struct maker *g)
     }
 }
 
-/* Not the current range's end where it could not be mended, except in the
-   last round, after which nothing follows that could be stuck. */
-static bool may_use_site(const struct maker *g, unsigned site, bool last)
-{
-    return last || room_to_mend(g)
-        || site != g->config.code[g->state.domain].end;
-}
-
 /* Both sides of every limit, one after the other, in several states. */
 static void kind_limits(struct maker *g)
 {
@@ -1017,16 +895,14 @@ static void kind_limits(struct maker *g)
             /* local targets and sites at the ends of every range; then table
                words at the ends of every domain's part */
             const unsigned words[] = { c->code[d].start - 1u,
-                c->code[d].start, c->code[d].end - 1u, c->code[d].end,
-                c->code[d].end + 1u };
+                c->code[d].start, c->code[d].end - 1u, c->code[d].end };
             for (i = 0; i < COUNT(words); i++) {
                 own_word(g, &site);
                 if (call(g, words[i], site, 0) == 0)
                     back(g);
                 own_word(g, &site);
-                if (may_use_site(g, words[i], round == 3)
-                    && call(g, site, words[i], 0) == 0)
-                    leave(g);
+                if (call(g, site, words[i], 0) == 0)
+                    back(g);
             }
             own_word(g, &site);
             if (call(g, c->jt + WORDS * d, site, g->state.bound) == 0)
@@ -1040,7 +916,6 @@ static void kind_limits(struct maker *g)
             const unsigned stacks[] = { c->top - 2u, c->top - 1u,
                 g->state.bound, g->state.bound + 1u, 4095, 4096, 65535, 0 };
             unsigned target = c->jt + (unsigned)g->pair[i].index;
-            unsigned end = c->code[g->state.domain].end;
             own_word(g, &site);
             if (call(g, target, site, g->state.bound) != 0)
                 continue;
@@ -1048,10 +923,6 @@ static void kind_limits(struct maker *g)
             for (j = 0; j < COUNT(stacks); j++)
                 if (call(g, target, site, stacks[j]) == 0)
                     back(g);
-            for (j = 0; j < 3; j++)             /* sites end - 1 to end + 1 */
-                if (may_use_site(g, end - 1 + j, round == 3)
-                    && call(g, target, end - 1 + j, g->state.bound) == 0)
-                    leave(g);
             if (percent(g, 50))
                 break;
         }
@@ -1165,69 +1036,13 @@ static void craft(struct maker *g, unsigned tag, unsigned site,
 {
     unsigned end = g->state.pointer, start = end - (tag == 255 ? 3 : 5);
 
-    store16(g, start, site);
-    if (tag != 255)
-        store16(g, start + 2, bound);
+    store(g, start, site % 256);
+    store(g, start + 1, site / 256 % 256);
+    if (tag != 255) {
+        store(g, start + 2, bound % 256);
+        store(g, start + 3, bound / 256 % 256);
+    }
     store(g, end - 1, tag);
-}
-
-/* A site at or beside an end of a domain's range, for a crafted frame. */
-static unsigned craft_site(struct maker *g, unsigned domain)
-{
-    return percent(g, 50) ? g->config.code[domain].start - below(g, 2)
-        : g->config.code[domain].end + 1u - below(g, 3);
-}
-
-/* From domain 7, document 02, Ask 2: the site of the newest frame, or of one a
-   little older, becomes the end of the range of the domain returned to, or a
-   word beside it. Other damage may be done to the same frame: then 14 comes
-   before 21. */
-static void spoil_site(struct maker *g)
-{
-    static const uint8_t tags[] = { 8, 128, 254, 255 };
-    unsigned older = percent(g, 80) ? 0 : between(g, 1, 3);
-    unsigned at = g->state.pointer, d = 7, start, site;
-    bool found = find_frame(g, at, &start, &d), cross;
-
-    for (; found && older > 0; older--) {
-        at = start;
-        found = find_frame(g, at, &start, &d);
-    }
-    if (!found)
-        return;
-    cross = at - start == 5;
-    switch (below(g, 12)) {
-    case 0: case 1:                         /* old bound below the present */
-        if (cross)
-            store16(g, start + 2, g->state.bound - 1u);
-        break;
-    case 2: case 3:                         /* old bound above 4095 */
-        if (cross)
-            store16(g, start + 2, percent(g, 50) ? 4096
-                : between(g, 4096, 65535));
-        break;
-    case 4:                                 /* to another domain, its end */
-        if (cross) {
-            d = below(g, MACHINE_DOMAINS);
-            store(g, at - 1, d);
-        }
-        break;
-    case 5:                                 /* to another, not its end */
-        store(g, at - 1, below(g, MACHINE_DOMAINS));
-        break;
-    case 6:                                 /* no tag, or the other length */
-        store(g, at - 1, tags[below(g, COUNT(tags))]);
-        break;
-    default:                                /* the site alone */
-        break;
-    }
-    site = g->config.code[d].end;
-    switch (below(g, 4)) {
-    case 0: site--; break;
-    case 1: site++; break;
-    default: break;
-    }
-    store16(g, start, site);
 }
 
 /* From domain 7: goes down by crafted local frames of three bytes until fewer
@@ -1255,15 +1070,10 @@ static void kind_frame_damage(struct maker *g)
 {
     static const uint8_t tags[] = { 8, 9, 127, 128, 254, 255, 7, 6, 0 };
     const struct machine_config *c = &g->config;
-    unsigned rounds = between(g, 10, 150), i, number = 0;
+    unsigned rounds = between(g, 10, 120), i;
 
     usual(g);
     lay_between(g, 0, 20, 1, 16, 0);
-    if (percent(g, 25)) {
-        g->pairs = 0;
-        lay_side_by_side(g, below(g, 8));
-        lay_table(g);
-    }
     begin(g);
     while (rounds-- > 0 && !g->full) {
         unsigned d = below(g, MACHINE_DOMAINS), used, site, bound, p;
@@ -1283,7 +1093,7 @@ static void kind_frame_damage(struct maker *g)
             go_local(g);
             continue;
         }
-        switch (below(g, 9)) {
+        switch (below(g, 7)) {
         case 0:                                 /* the tag */
             if (used > 0)
                 store(g, p - 1, percent(g, 60) ? tags[below(g, COUNT(tags))]
@@ -1298,18 +1108,17 @@ static void kind_frame_damage(struct maker *g)
             store(g, p, percent(g, 50) ? 255 : below(g, 9));
             break;
         case 3:                                 /* a local frame anew */
-            site = craft_site(g, 7);
+            site = c->code[7].start + (percent(g, 50) ? -below(g, 2)
+                : c->code[7].end - c->code[7].start - below(g, 2));
             if (used > 0)
                 craft(g, 255, site, 0);
             break;
         case 4:
             run_short(g);
             break;
-        case 5: case 6:
-            spoil_site(g);
-            break;
         default:                                /* a cross-domain frame anew */
-            site = craft_site(g, d);
+            site = c->code[d].start + (percent(g, 50) ? -below(g, 2)
+                : c->code[d].end - c->code[d].start - below(g, 2));
             switch (below(g, 8)) {
             case 0: bound = g->state.bound - 1u; break;
             case 1: bound = g->state.bound + 1u; break;
@@ -1323,8 +1132,6 @@ static void kind_frame_damage(struct maker *g)
                 craft(g, d, site, bound);
         }
         for (i = between(g, 1, 3); i > 0; i--)
-            number = back(g);
-        if (number == 21 && percent(g, 50) && mend(g))
             back(g);
         if (percent(g, 20))
             steps(g, below(g, 6), 50);

@@ -1,6 +1,5 @@
 /*
- * The step machine (scope document, sections 2 to 6, and document 02, Ask 2).
- * A section that is named without a document is one of the scope document.
+ * The step machine (scope document, sections 2 to 6).
  *
  * Built otherwise than the packed map suggests: each operation that needs the
  * map unpacks all of it into one byte for each block, works on those bytes,
@@ -105,15 +104,6 @@ static bool in_code(const struct machine_config *c, unsigned domain,
     uint16_t word)
 {
     return c->code[domain].start <= word && word < c->code[domain].end;
-}
-
-/* Document 02, Ask 2: may this flash word be a return site in that domain?
-   It lies in the code range or is its end; an empty range has no site. */
-static bool site_good(const struct machine_config *c, unsigned domain,
-    uint16_t word)
-{
-    return c->code[domain].start < c->code[domain].end
-        && c->code[domain].start <= word && word <= c->code[domain].end;
 }
 
 /* Section 2: unpacks the map as RAM has it now. */
@@ -274,7 +264,7 @@ struct machine_answer machine_call(struct machine_state *s,
 
     if (first)
         return refuse(first);
-    if (!site_good(c, s->domain, site))
+    if (!in_code(c, s->domain, site))
         return refuse(7);
     after = *s;
     frame[0] = (uint8_t)(site % 256);
@@ -335,8 +325,7 @@ static unsigned top_frame(const uint8_t *used_area, unsigned used,
     return length;
 }
 
-/* Section 5, return, and document 02, Ask 2. RAM is only read: popped bytes
-   stay. */
+/* Section 5, return. RAM is only read: popped bytes stay. */
 struct machine_answer machine_return(struct machine_state *s,
     uint8_t *ram, size_t ram_length)
 {
@@ -354,11 +343,9 @@ struct machine_answer machine_return(struct machine_state *s,
         &site, &old_bound, &tag);
     if (length == CROSS_FRAME)
         domain = tag;
-    if (length == 0 || !site_good(c, domain, site)
+    if (length == 0 || !in_code(c, domain, site)
         || old_bound < s->bound || old_bound > HIGHEST)
         return refuse(14);
-    if (site == c->code[domain].end)    /* document 02, Ask 2: no code there */
-        return refuse(21);
     s->domain = domain;
     s->bound = old_bound;
     s->pointer = (uint16_t)(s->pointer - length);

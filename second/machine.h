@@ -1,7 +1,6 @@
 /*
- * The step machine of the scope document, sections 2 to 6, with document 02,
- * Ask 2, written a second time from the documents alone, so that one mistake
- * is not made twice.
+ * The step machine of the scope document, sections 2 to 6, written a second
+ * time from the document alone, so that one mistake is not made twice.
  *
  * There are no globals. The caller lends RAM and jump table, each with its
  * length, and owns the state. An operation that is done alters state and RAM
@@ -38,8 +37,7 @@ struct machine_state {
     uint16_t pointer;                   /* safe pointer: next free byte */
 };
 
-/* Section 6 and document 02, Ask 2: the answer number and the value that goes
-   with it. */
+/* Section 6: the answer number and the value that goes with it. */
 struct machine_answer {
     uint16_t number, value;
 };

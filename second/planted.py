@@ -1,10 +1,9 @@
 #!/usr/bin/env python3
 """Shows that compare.py sees errors: planted.py [--scripts N] [--seed S]
 
-Each planted/*.edit makes one deliberate error (scope document, section 9, or
-document 02, Ask 2) in a copy of the source. The wrong program is built in a
-temporary folder and compared with the right one. It passes only if every
-error is caught.
+Each planted/*.edit makes one deliberate error (scope document, section 9) in
+a copy of the source. The wrong program is built in a temporary folder and
+compared with the right one. It passes only if every error is caught.
 
 An edit has three lines, `file: `, `old: ` and `new: `; what follows the one
 space is taken as it stands, and the old text must occur exactly once.

@@ -16,7 +16,7 @@ BLOCK, RAM = 8, 4096
 TRUSTED = DOMAINS - 1
 NO_RULE = "see document 01, sections 2 and 3"
 
-# Section 6 of document 01, and 21 of document 02, in plain words; `facts` below supplies what stands in braces.
+# Section 6 of document 01 in plain words; `facts` below supplies what stands in braces.
 REFUSALS = {
     1: "the RAM is not 4,096 bytes, or the jump table of a call is not 1,024 words",
     2: "a rule of the configuration is broken{rule}",
@@ -24,7 +24,7 @@ REFUSALS = {
     4: "{address} is past the end of RAM, 4095",
     5: "{who} may not write at {address}: {place}",
     6: "{who} may not write at {address}: its part of the stack ends at the bound, {bound}",
-    7: "the return site {return site} is {no site}",
+    7: "the return site {return site} is not in {who}'s code{code}",
     8: "the target {target} of this local call is not in {who}'s code{code}",
     9: "the target {target} is past the jump tables, which end at {table end}",
     10: "jump table word {table word} holds {entry}, no place in {called}'s code{called code}",
@@ -38,13 +38,7 @@ REFUSALS = {
     18: "no segment of the heap starts at {address}{since}",
     19: "the segment at {address} is not {who}'s{since}",
     20: "{domain} is none of the modules 0 to 6, and only they hold segments",
-    21: "{last word}, so nothing returns there",
 }
-
-# Why an answer is 21: with the call that made the newest frame, and where a store may have altered the frame since.
-LAST_WORD_OF = ("the call in line {line} was the last word of {who}'s code{code}: none of it stands at the return site"
-                " {return site}")
-LAST_WORD = "the newest frame has the end of a domain's code as its return site: none of it stands there"
 
 
 def not_run(data, output):
@@ -109,7 +103,6 @@ class Replay:
         self.page = []     # rows, and texts that go across the page
         self.since = {}    # first address of a block -> what was done with the block last
         self.written = {}  # address -> byte, writer and line of the last store done there
-        self.calls = {}    # safe pointer -> what 21 means for the frame that ends there, made by a call
 
     # ---- what stands on the page ----
 
@@ -204,7 +197,7 @@ class Replay:
     # ---- one answer ----
 
     def facts(self, step, who, bound, answer, is_local):
-        settings, (line, _, value, _, new_bound, pointer) = self.script.settings, answer
+        settings, (line, _, value, _, new_bound, _) = self.script.settings, answer
         facts = Facts(zip((what for what, _ in step.operation.fields), step.values))
         facts.update(line=line, value=value, who=self.name(who), code=self.code(who), bound=bound,
                      top=settings["top"], lowest=settings["top"] - 1, taker=self.name(facts["domain"]))
@@ -223,11 +216,6 @@ class Replay:
             called = word * DOMAINS // TABLE_WORDS
             facts.update({"entry": self.script.entries.get(word, 0), "called": self.name(called),
                           "called code": self.code(called)})
-        first_word, end = self.script.ranges[who]
-        no_site = ("neither in {who}'s code{code}, nor directly behind it" if first_word < end else
-                   "not in {who}'s code{code}")
-        facts.update({"pointer": pointer, "no site": no_site.format_map(facts),
-                      "last word": self.calls.get(pointer, LAST_WORD)})
         facts["how"] = ", a local call" if is_local else f" (table word {word}), stack up to {new_bound}"
         facts["back"] = ", from a local call" if is_local else f", stack up to {new_bound} again"
         return facts
@@ -236,12 +224,8 @@ class Replay:
         if step.operation.since:
             for start in range(facts["first"], facts["last"], BLOCK):
                 self.since[start] = step.operation.since.format_map(facts)
-        if "return site" in facts:
-            self.calls[facts["pointer"]] = LAST_WORD_OF.format_map(facts)
         if "byte" in facts:
             self.written[facts["address"]] = (facts["byte"], facts["who"], facts["line"])
-            if self.script.settings["safe"] <= facts["address"] < self.script.settings["top"]:
-                self.calls.clear()  # the frames may be others now
 
     def name(self, domain):
         return self.script.names.get(domain, "trusted" if domain == TRUSTED else f"domain {domain}")

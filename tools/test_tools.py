@@ -48,25 +48,6 @@ setup 0
 16 0 50 7 4095 448
 17 13 0 7 4095 448
 """
-LAST_WORD_ANSWERS = b"""\
-HMT 1
-setup 0
-1 0 8000 1 4080 2821
-2 0 10400 1 4080 2824
-3 7 0 1 4080 2824
-4 0 600 7 4060 2829
-5 0 0 7 4060 2829
-6 0 700 7 4060 2832
-7 0 640 7 4060 2829
-8 0 11000 0 4040 2834
-9 0 512 0 4040 2834
-10 0 0 0 4040 2834
-11 0 652 7 4060 2829
-12 21 0 7 4060 2829
-13 0 0 7 4060 2829
-14 0 0 7 4060 2829
-15 21 0 7 4060 2829
-"""
 # The sample's configuration, 10 lines, and its header in bytes, put down by hand.
 CONFIGURATION = """bot 256\nheap 320\nsafe 448\ntop 512\njt 4096
 range 0 100 200\nrange 1 200 300\nrange 7 10 100\nentry 0 100\nentry 128 200\n"""
@@ -139,11 +120,8 @@ malloc 8
 change 320 7
 call 4224 150 4000
 free 320
-""" + "call 4224 250 4000\n" * 9 + """call 4224 300 4000
-call 4224 250 4000
-return
-"""
-REFUSED = [14, 4, 7, 8, 9, 10, 11, 13, 15, 5, 5, 6, 16, 17, 18, 20, 19, 12, 21]
+""" + "call 4224 250 4000\n" * 11
+REFUSED = [14, 4, 7, 8, 9, 10, 11, 13, 15, 5, 5, 6, 16, 17, 18, 20, 19, 12]
 
 
 def random_script(rng):
@@ -379,50 +357,16 @@ class Tools(unittest.TestCase):
         self.assertEqual(plain.count(" 5 0 0 4080 2821\n"), 4)
 
     def test_every_refusal_in_words(self):
-        self.assertEqual(list(replay.REFUSALS), list(range(1, 22)))
+        self.assertEqual(list(replay.REFUSALS), list(range(1, 21)))
         page = self.page(self.file("a.txt", CONFIGURATION + REFUSING))
         self.assertEqual([int(number) for number in re.findall(r"REFUSED (\d+): ", page)], REFUSED)
         self.assertNotIn("?", page)
         flat = " ".join(page.split())
         for words in ("pump may not write at 0: that is below the protected range, 256 to 511",
                       "the segment at 320 is not domain 1's (pump took it in line 21)",
-                      "the return site 5 is neither in trusted's code, 10 to 99, nor directly behind it",
                       "jump table word 1 holds 0, no place in pump's code, 100 to 199",
-                      "the stack pointer 510 is not from 511 (top - 1) to 4095 (the bound)",
-                      "the call in line 34 was the last word of domain 1's code, 200 to 299: none of it stands at the return site"
-                      " 300, so nothing returns there"):
+                      "the stack pointer 510 is not from 511 (top - 1) to 4095 (the bound)"):
             self.assertIn(words, flat)
-
-    def test_last_word(self):
-        """The example of a call as the last word of a module: its answers, and the words for them."""
-        example = ROOT / "examples" / "last-word.txt"
-        plain = self.good(RUN, "--plain", example)
-        self.assertEqual(plain, LAST_WORD_ANSWERS)
-        page = self.page(example)
-        self.assertEqual(self.answers_of(page), plain.decode().splitlines())
-        flat = " ".join(page.split())
-        self.assertIn("REFUSED 7: the return site 11001 is neither in level's code, 8000 to 10999, nor directly behind it", flat)
-        self.assertIn("-> trusted done: goes on at word 600 (table word 896), stack up to 4060", flat)
-        self.assertEqual(flat.count("REFUSED 21: the call in line 4 was the last word of level's code, 8000 to 10999: none of it stands"
-                                    " at the return site 11000, so nothing returns there"), 2)
-        self.assertIn("15 operations: 12 done, 3 refused (lines 3, 12, 15)", flat)
-
-    def test_returns_to_the_end_of_code(self):
-        """The call is named as long as its frame is surely its own: not after a store to the safe stack."""
-        path = self.file("a.txt", CONFIGURATION + "call 20 30 0\ncall 20 100 0\nreturn\ncall 20 40 0\nreturn\nreturn\nstore 511 0\nreturn\n"
-                         "store 451 99\nreturn\nreturn\n")
-        page = self.page(path)
-        told = re.findall(r"REFUSED 21: (?:the call in line (\d+) was the last word of trusted's code, 10 to 99: none of it stands at the"
-                          r" return site 100|(the newest frame has the end of a domain's code as its return site: none of it stands"
-                          r" there)), so nothing returns there", " ".join(page.split()))
-        self.assertEqual([line or bool(frame) for line, frame in told], ["2", "2", True])
-        self.assertEqual([line.split()[1:3] for line in self.answers_of(page)[2:]],
-                         [["0", "20"], ["0", "20"], ["21", "0"], ["0", "20"], ["0", "40"], ["21", "0"], ["0", "0"], ["21", "0"],
-                          ["0", "0"], ["0", "99"], ["0", "30"]])
-
-    def test_sites_of_an_empty_range(self):
-        path = self.file("a.txt", CONFIGURATION.replace("range 7 10 100", "range 7 10 10") + "call 4096 10 4000\n")
-        self.assertIn("REFUSED 7: the return site 10 is not in trusted's code, which is empty", " ".join(self.page(path).split()))
 
     def test_answers_that_no_script_draws(self):
         """Numbers 1 and 3, one that is not known yet, and an answer to another question."""

@@ -28,7 +28,7 @@
 #include <sys/mman.h>
 #include <unistd.h>
 
-enum { RAM = 4096, SLOT = 48, TABLE = 2048, TRUSTED = 7, OTHER = 22 };
+enum { RAM = 4096, SLOT = 48, TABLE = 2048, TRUSTED = 7, OTHER = 21 };
 
 enum function { SET_UP, STORE, CALL, RETURN, MALLOC, FREE, CHANGE, FUNCTIONS };
 
@@ -36,14 +36,14 @@ static const char *const names[FUNCTIONS] = {
     "set_up", "store", "call", "return", "malloc", "free", "change"
 };
 
-/* Section 6, Asks 1 and 2: bit n is set if the function can answer n. */
+/* Section 6 and Ask 1: bit n is set if the function can answer n. */
 #define BIT(n) (1ul << (n))
 static const unsigned long can_come[FUNCTIONS] = {
     BIT(0) | BIT(1) | BIT(2),
     BIT(0) | BIT(1) | BIT(3) | BIT(4) | BIT(5) | BIT(6),
     BIT(0) | BIT(1) | BIT(3) | BIT(7) | BIT(8) | BIT(9) | BIT(10) | BIT(11)
         | BIT(12),
-    BIT(0) | BIT(1) | BIT(3) | BIT(13) | BIT(14) | BIT(21),
+    BIT(0) | BIT(1) | BIT(3) | BIT(13) | BIT(14),
     BIT(0) | BIT(1) | BIT(3) | BIT(15) | BIT(16) | BIT(17),
     BIT(0) | BIT(1) | BIT(3) | BIT(18) | BIT(19),
     BIT(0) | BIT(1) | BIT(3) | BIT(18) | BIT(19) | BIT(20)
@@ -362,17 +362,6 @@ static unsigned word_of(unsigned d)
     return start(d) < end(d) ? between(start(d), end(d) - 1) : start(d);
 }
 
-/* A return site: a word of a domain's code or, so often, its end or next to
-   it. For an empty range the end is no site. */
-static unsigned site_of(unsigned d, unsigned often)
-{
-    unsigned site = word_of(d);
-
-    if (percent(often))
-        site = percent(50) ? end(d) : near(end(d));
-    return site;
-}
-
 /* ---- steered operations -------------------------------------------------- */
 
 static unsigned do_store(void)
@@ -425,7 +414,7 @@ static unsigned do_trusted_store(void)
 
 static unsigned do_call(void)
 {
-    unsigned d = domain(), site = site_of(d, 2), target, stack, word;
+    unsigned d = domain(), site = word_of(d), target, stack, word;
 
     word = between(0, 1023);
     if (percent(80))        /* a module, not the trusted domain */
@@ -435,7 +424,7 @@ static unsigned do_call(void)
     if (percent(50) && bound() >= top() + 7)    /* leaves room for the next */
         stack = bound() - below(8);
     switch (below(24)) {
-    case 0: site = near(start(d)); break;
+    case 0: site = percent(50) ? near(start(d)) : near(end(d)); break;
     case 1: target = percent(50) ? near(start(d)) : near(end(d)); break;
     case 2: target = percent(50) ? near(jt()) : near(jt() + 1024); break;
     case 3: target = below(65536); break;
@@ -446,15 +435,6 @@ static unsigned do_call(void)
     default: break;
     }
     return run3(CALL, target, site, stack);
-}
-
-/* Returns that were refused with 21 since the last set-up: the frame stays. */
-static unsigned stuck;
-
-static void do_return(void)
-{
-    if (run3(RETURN, 0, 0, 0) == 21)
-        stuck++;
 }
 
 static unsigned do_malloc(void)
@@ -514,7 +494,7 @@ static void steered(void)
         else if (roll < 75 || (at_bottom && roll < 90))
             do_trusted_store();
         else
-            do_return();
+            run3(RETURN, 0, 0, 0);
     } else if (domain() == TRUSTED) {           /* what it may not do */
         if (roll < 96)
             do_malloc();
@@ -535,9 +515,9 @@ static void steered(void)
         do_change();
     } else if (roll < 80) {
         if (do_call() == 12)
-            do_return();
+            run3(RETURN, 0, 0, 0);
     } else {
-        do_return();
+        run3(RETURN, 0, 0, 0);
     }
 }
 
@@ -676,15 +656,14 @@ static void new_unit(bool roomy)
 
 /* ---- runs ---------------------------------------------------------------- */
 
-/* A set-up and what may follow it, until too many returns led to no code. */
+/* A set-up and what may follow it. */
 static void long_run(void)
 {
     unsigned left = between(100, 1000);
 
     new_unit(percent(85));
-    stuck = 0;
     if (run3(SET_UP, 0, 0, 0) == 0)
-        while (left-- > 0 && stuck < 12)
+        while (left-- > 0)
             steered();
 }
 
@@ -711,9 +690,9 @@ static void fresh_state(void)
     if (pointer() >= 5) {
         unsigned tag = percent(40) ? 255 : below(9);
         unsigned length = tag == 255 ? 3 : 5;
-        unsigned site = site_of(tag < 8 ? tag : domain(), 25);
-        if (percent(10))
-            site = below(65536);
+        unsigned site = word_of(tag < 8 ? tag : domain());
+        if (percent(20))
+            site = tag < 8 && percent(50) ? near(end(tag)) : below(65536);
         at = pointer() - length;
         hmt_put(ram2, at, (uint16_t)site);
         if (length == 5)
@@ -825,7 +804,7 @@ static void break_state(void)
 static void every_function(void)
 {
     unsigned d = domain() % 8, code = 2 * d + 1;
-    unsigned any = below(65536), site = site_of(d, 10), target = word_of(d);
+    unsigned any = below(65536), site = word_of(d), target = word_of(d);
 
     run3(STORE, percent(50) ? any % RAM : any, any / 256, 0);
     run3(CALL, jt() + below(1024), site, bound());

@@ -1,8 +1,7 @@
 /*
  * The sample of document 01, section 7, through the functions of
- * include/hmt.h, the slot's bytes as document 02 lists them, and a call as the
- * last word of a module. All that is expected is written out here by hand:
- * nothing is taken from another program.
+ * include/hmt.h, and the slot's bytes as document 02 lists them. All that is
+ * expected is written out here by hand: nothing is taken from another program.
  */
 #include "hmt.h"
 
@@ -10,7 +9,7 @@
 #include <string.h>
 
 static uint8_t ram[HMT_RAM_BYTES], slot[HMT_SLOT_BYTES], table[HMT_TABLE_BYTES];
-static unsigned passed, failed, count;
+static unsigned passed, failed;
 
 static void expect(const char *what, int holds)
 {
@@ -25,6 +24,7 @@ static void expect(const char *what, int holds)
 /* A line of the sample: count, number, value, domain, bound, safe pointer. */
 static void line(uint32_t answer, const char *wanted)
 {
+    static unsigned count;
     char got[64];
 
     sprintf(got, "%u %u %u %u %u %u", ++count, (unsigned)HMT_NUMBER(answer),
@@ -116,59 +116,10 @@ static void bytes(void)
     expect("leaves RAM", memcmp(ram, ram_before, sizeof ram) == 0);
 }
 
-/* The sample's unit, and calls whose return site is the end of a code range.
-   Trusted code ends at 100, where the code of domain 0 starts; that ends at 200,
-   where the code of domain 1 starts. */
-static void last_word(void)
-{
-    static const uint8_t frames[13] = {
-        100, 0, 255, 15, 7,  200, 0, 255,  200, 0, 160, 15, 0
-    };
-
-    hmt_put_entry(table, HMT_TABLE_WORD(1, 1), 300);
-    hmt_configure(slot, &sample);
-    expect("set-up for a last word", hmt_set_up(BOTH) == 0);
-    count = 0;
-    line(hmt_return(BOTH), "1 13 0 7 4095 448");
-    line(CALL(4096, 101, 4000), "2 7 0 7 4095 448");
-    line(CALL(4096, 100, 4000), "3 0 100 0 4000 453");
-    line(hmt_return(BOTH), "4 21 0 0 4000 453");
-    line(CALL(200, 199, 0), "5 8 0 0 4000 453");
-    line(CALL(120, 200, 0), "6 0 120 0 4000 456");
-    line(hmt_return(BOTH), "7 21 0 0 4000 456");
-    line(CALL(4225, 150, 3990), "8 10 0 0 4000 456");
-    line(CALL(4224, 150, 3990), "9 0 200 1 3990 461");
-    line(hmt_return(BOTH), "10 0 150 0 4000 456");
-    line(CALL(4224, 200, 3990), "11 0 200 1 3990 461");
-    line(hmt_return(BOTH), "12 21 0 1 3990 461");
-    expect("frames with such sites",
-        memcmp(ram + 448, frames, sizeof frames) == 0);
-    ram[459] = 14;              /* the old bound becomes 3744 */
-    expect("14 before 21", hmt_return(BOTH) == 14ul * 65536);
-}
-
-/* A range that is empty has no site, not even its end. */
-static void no_site(void)
-{
-    static const uint8_t frame[5] = { 50, 0, 255, 15, 7 };
-    struct hmt_config config = sample;
-
-    config.code[HMT_TRUSTED].start = config.code[HMT_TRUSTED].end = 50;
-    hmt_configure(slot, &config);
-    expect("set-up without trusted code", hmt_set_up(BOTH) == 0);
-    expect("no site in an empty range", CALL(4096, 50, 4000) == 7ul * 65536);
-    memcpy(ram + 448, frame, sizeof frame);
-    slot[HMT_SLOT_DOMAIN] = 0;
-    hmt_put(slot, HMT_SLOT_POINTER, 453);
-    expect("nor in a frame", hmt_return(BOTH) == 14ul * 65536);
-}
-
 int main(void)
 {
     lines();
     bytes();
-    last_word();
-    no_site();
     printf("c-sample: %u passed, %u failed\n", passed, failed);
     return failed != 0;
 }

@@ -28,7 +28,6 @@ fn number_of_refusal(refusal: Refusal) -> u8
         Refusal::NoSegment => 18,
         Refusal::NotOwner => 19,
         Refusal::DomainAbove => 20,
-        Refusal::NoCode => 21,
     }
 }
 

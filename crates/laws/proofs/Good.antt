@@ -2,19 +2,19 @@
 -- Assumes nothing.
 use Prim.Native.Nat.{ℕ, zero, suc, ◌+◌, ◌-◌, ◌*◌, ◌<◌, ◌≤◌}
 use mathlib.Core.Path.{◌≡◌}
-use mathlib.Core.Bool.{Bool, true, false, and-false, false≢true}
+use mathlib.Core.Bool.{Bool, true, false}
 use mathlib.Core.List.{List, [], ◌∷◌}
 use native.Mathlib.Omega.{arith}
 use lib.ListN.{get_or}
-use lib.Dec.{leb, ltb, eqb}
-use borrow.Author.Tests.{leb-true, ltb-true, eqb-true, le-leb, lt-ltb}
+use lib.Dec.{leb, ltb}
+use borrow.Author.Tests.{leb-true, ltb-true, le-leb, lt-ltb}
 use Rattle.rules.specs.declared.RamByte.{RamByte}
 use Rattle.rules.specs.declared.FlashWord.{FlashWord}
 use Rattle.rules.specs.declared.Range.{Range}
 use Rattle.rules.specs.declared.Config.{Config}
 use Rattle.rules.specs.declared.State.{State}
 use Rattle.rules.specs.Memory.{ram_bytes, layout_of, block_bytes, start_of, block_of, is_multiple, blocks, heap_block, safe_block, map_bytes, map_byte, per_byte, trusted, is_domain}
-use Rattle.rules.specs.Code.{empty_range, range_of, in_range, is_site, ordered, all_apart, good_site}
+use Rattle.rules.specs.Code.{empty_range, range_of, in_range, ordered, all_apart, good_site}
 use Rattle.rules.specs.State.{bot_below_top, map_below_heap, heap_below_safe, safe_below_top, top_in_ram, jt_in_flash, good_config, domain_good, bound_good, safepointer_good, good_state, fresh, zeros}
 use Rattle.laws.proofs.Tests.{by_test, both, each}
 use Rattle.laws.proofs.Blocks.{start_lt, start_mono, start_le, lt_next, aligned, block_le, block_lt, block_from, block_before, block_small}
@@ -207,14 +207,10 @@ module _ {c : Config} (g : GoodConfig c) where
 
 -- ---- its code ranges
 
-pub site≤end : (r : Range) (w : FlashWord) → is_site r w ≡ true → w.0 ≤ r.end.0
-site≤end r w h =
-    by_test (in_range r w)
-    (λ t. omega (arith, ltb-true w.0 r.end.0 (both (leb r.start.0 w.0) _ t).1))
-    (λ t.
-    by_test (eqb w.0 r.end.0)
-    (λ e. omega (arith, eqb-true w.0 r.end.0 e))
-    (λ e. absurd (false≢true (rw (t, e, and-false) at h))))
+pub in_range_lem : (r : Range) (w : FlashWord) → in_range r w ≡ true → (r.start.0 ≤ w.0) × (w.0 < r.end.0)
+in_range_lem r w h =
+    let (from, to) = both (leb r.start.0 w.0) (ltb w.0 r.end.0) h in
+    (leb-true r.start.0 w.0 from, ltb-true w.0 r.end.0 to)
 
 -- a place past the end of the list gives the empty range, so this holds for every d
 pub ordered_at : (jt : FlashWord) (rs : List Range) → ordered jt rs ≡ true → (d : ℕ)
@@ -230,5 +226,5 @@ ordered_at jt (r ∷ rs) h (suc d) =
 pub range_ordered : {c : Config} → GoodConfig c → (d : ℕ) → ((range_of c d).start.0 ≤ (range_of c d).end.0) × ((range_of c d).end.0 ≤ c.jt.0)
 range_ordered {c} g d = ordered_at c.jt c.ranges g.ranges_ordered d
 
-pub site_fits : {c : Config} → GoodConfig c → (d : ℕ) (w : FlashWord) → good_site c d w ≡ true → w.0 ≤ 64512
-site_fits {c} g d w h = omega (arith, site≤end (range_of c d) w h, (range_ordered g d).1)
+pub site_fits : {c : Config} → GoodConfig c → (d : ℕ) (w : FlashWord) → good_site c d w ≡ true → w.0 < 64512
+site_fits {c} g d w h = omega (arith, (in_range_lem (range_of c d) w h).1, (range_ordered g d).1)

@@ -28,6 +28,11 @@ passed (r ∷ rs) last v h =
     let (n, l) = passed rs last v g in
     ((e, n), l)
 
+-- and what passes each row is answered below them
+pub none_holds : (rs : List (Bool × Refusal)) (last : Answer) → NoRow rs → rows rs last ≡ last
+none_holds [] last n = refl
+none_holds (r ∷ rs) last n = rw n.0 (none_holds rs last n.1)
+
 pub give_answer : (a : Answer) (s : State) (ram : List ℕ) (s' : State) (ram' : List ℕ) → (give a s ram s' ram').answer ≡ a
 give_answer (Done v) s ram s' ram' = refl
 give_answer (Refused r) s ram s' ram' = refl

@@ -64,8 +64,3 @@ right_false a b h = rw (h, and-false)
 
 pub left_true : (a b : Bool) → a ≡ true → (a && b) ≡ b
 left_true a b h = rw h
-
--- a disjunction by its other side
-pub right_true : (a b : Bool) → b ≡ true → (a || b) ≡ true
-right_true true b h = refl
-right_true false b h = h

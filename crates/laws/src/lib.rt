@@ -1,1 +1,1 @@
-// Facts about the rules, each stated once, in proofs/. No code.
+// Facts about the rules of document 01, each stated once, in proofs/. No code.

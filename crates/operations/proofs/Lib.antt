@@ -2,7 +2,6 @@
 pub mod Gives
 pub mod Acts
 pub mod SafeStack
-pub mod Sites
 pub mod CallRows
 pub mod Calls
 pub mod Returns

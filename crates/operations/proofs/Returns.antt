@@ -1,14 +1,14 @@
--- Return: the frame that is read, the rows that it has, and what a return gives.
+-- Return: the frame that is read, the frame with its damage told, and what a return gives.
 -- Assumes nothing.
 use Prim.Native.Nat.{ℕ, ◌+◌, ◌-◌, ◌<◌, ◌≤◌}
-use mathlib.Core.Path.{◌≡◌, refl, sym}
-use mathlib.Core.Bool.{Bool, true, false, cond, not, ◌||◌}
+use mathlib.Core.Path.{◌≡◌, refl}
+use mathlib.Core.Bool.{Bool, true, false, cond}
 use mathlib.Core.List.{List}
 use native.Mathlib.Omega.{arith}
 use lib.ListN.{length, get_or, take}
 use lib.Dec.{eqb, leb, ltb}
 use lib.Seq.{slice, length-slice}
-use borrow.Author.Tests.{eq-eqb, ne_eqb, lt-ltb, le-ltb, le-leb, lt-leb, ltb-false, leb-true}
+use borrow.Author.Tests.{eq-eqb, ne_eqb, ltb-false, leb-true}
 use Rattle.rules.specs.declared.RamByte.{RamByte}
 use Rattle.rules.specs.declared.FlashWord.{FlashWord}
 use Rattle.rules.specs.declared.State.{State}
@@ -18,20 +18,17 @@ use Rattle.rules.specs.declared.Operation.TheVariants.{Return}
 use Rattle.rules.specs.declared.Outcome.{Outcome}
 use Rattle.rules.specs.declared.Answer.{Answer}
 use Rattle.rules.specs.declared.Answer.TheVariants.{Done, Refused}
-use Rattle.rules.specs.declared.Refusal.{Refusal}
 use Rattle.rules.specs.declared.Refusal.TheVariants.{NoFrame, DamagedFrame}
 use Rattle.rules.specs.Memory.{ram_bytes, trusted}
-use Rattle.rules.specs.Code.{range_of, good_site}
-use Rattle.rules.specs.State.{good_state}
+use Rattle.rules.specs.State.{ram_byte, good_state, running}
 use Rattle.rules.specs.Answers.{Gives, give}
 use Rattle.rules.specs.Call.{local_tag, frame_bytes}
-use Rattle.rules.specs.Return.{read_frame, top_frame, return_rows, returned}
+use Rattle.rules.specs.Return.{read_frame, top_frame, damaged, return_rows, returned}
 use Rattle.rules.specs.Operations.{nothing, return_of}
-use Rattle.laws.proofs.Tests.{by_test, right_true}
 use Rattle.laws.proofs.Good.{good_state-facts, domain≤trusted}
 use Rattle.laws.proofs.Operations.{gives_below}
 use Rattle.laws.proofs.Parts.{take_part}
-use Rattle.operations.specs.ReturnRows.{caller_of, site_rows, frame_rows, handed, returning}
+use Rattle.operations.specs.ReturnRows.{caller_of, judged, handed, returning}
 use Rattle.operations.proofs.Gives.{refused}
 use Rattle.operations.proofs.SafeStack.{Area, lent}
 
@@ -75,32 +72,46 @@ frame_read s ram a =
     let e : s.config.safe.0 + (s.safepointer.0 - s.config.safe.0) ≡ s.safepointer.0 = omega arith in
     rw (take_part s.config.safe.0 s.config.top.0 (s.safepointer.0 - s.config.safe.0) ram (omega arith), e)
 
--- ---- the rows of a cross-domain frame, by its old bound
+-- ---- the frame with its damage told
 
-module _ (s : State) (w : FlashWord) (b : RamByte) (d : ℕ) where
-  pub bound_below : b.0 < s.bound.0 → Refused DamagedFrame ≡ frame_rows s (Cross w b d)
-  bound_below h = rw (right_true (not (good_site s.config d w)) _ (lt-ltb b.0 s.bound.0 h))
+kept_local : (t : Bool) (f : Frame) (w : FlashWord) → cond t Damage f ≡ Local w → (t ≡ false) × (f ≡ Local w)
+kept_local true f w h = absurd (let z : ◌≡◌ {A = ℕ} 0 1 = cc in omega arith)
+kept_local false f w h = (refl, h)
 
-  pub bound_above : ram_bytes ≤ b.0 → Refused DamagedFrame ≡ frame_rows s (Cross w b d)
-  bound_above h = rw (right_true (not (good_site s.config d w) || ltb b.0 s.bound.0) _ (le-leb ram_bytes b.0 h))
+kept_cross : (t : Bool) (f : Frame) (w : FlashWord) (b : RamByte) (d : ℕ) → cond t Damage f ≡ Cross w b d → (t ≡ false) × (f ≡ Cross w b d)
+kept_cross true f w b d h = absurd (let z : ◌≡◌ {A = ℕ} 0 1 = cc in omega arith)
+kept_cross false f w b d h = (refl, h)
 
-  pub bound_fits : s.bound.0 ≤ b.0 → b.0 < ram_bytes → site_rows (range_of s.config d) w ≡ frame_rows s (Cross w b d)
-  bound_fits g h =
-      let low : ltb b.0 s.bound.0 ≡ false = le-ltb b.0 s.bound.0 g in
-      let high : leb ram_bytes b.0 ≡ false = lt-leb ram_bytes b.0 h in
-      by_test (good_site s.config d w) (λ t. rw (t, low, high)) (λ t. rw t)
+told_damage : (s : State) (f : Frame) (t : Bool) → damaged s f ≡ t → cond t Damage f ≡ Damage → damaged s f ≡ true
+told_damage s f true e h = e
+told_damage s f false e h = rw h
 
--- ---- what is handed back for a frame: the code answered a, which its rows give
+-- ---- what is handed back for it
 
-module _ (s : State) (f : Frame) (some : s.config.safe.0 < s.safepointer.0) (a : Answer) (right : a ≡ frame_rows s f) where
-  there : return_rows s f ≡ a
-  there = rw (ne_eqb s.safepointer.0 s.config.safe.0 (omega arith)) (sym right)
+module _ (s : State) (f : Frame) where
+  module _ (w : FlashWord) (h : judged s f ≡ Local w) where
+    pub local_below : length (frame_bytes f) ≤ s.safepointer.0 → 3 ≤ s.safepointer.0
+    local_below fits = rw (kept_local (damaged s f) f w h).1 at fits
 
-  pub back_done : (v : ℕ) → a ≡ Done v → (s' : State) → s' ≡ returned s f → record { answer = Done v; state = s' } ≡ returning s f
-  back_done v e s' q = rw (there, e, q)
+    pub local_back : s.config.safe.0 < s.safepointer.0 → (pointer : RamByte) → pointer ≡ ram_byte (s.safepointer.0 - 3)
+        → record { answer = Done w.0; state = running s s.domain s.bound pointer } ≡ returning s f
+    local_back some pointer p =
+        let (t, e) = kept_local (damaged s f) f w h in
+        rw (ne_eqb s.safepointer.0 s.config.safe.0 (omega arith), t, e, p)
 
-  pub back_refused : (r : Refusal) → a ≡ Refused r → record { answer = Refused r; state = s } ≡ returning s f
-  back_refused r e = rw (there, e)
+  module _ (w : FlashWord) (b : RamByte) (d : ℕ) (h : judged s f ≡ Cross w b d) where
+    pub cross_below : length (frame_bytes f) ≤ s.safepointer.0 → 5 ≤ s.safepointer.0
+    cross_below fits = rw (kept_cross (damaged s f) f w b d h).1 at fits
+
+    pub cross_back : s.config.safe.0 < s.safepointer.0 → (pointer : RamByte) → pointer ≡ ram_byte (s.safepointer.0 - 5)
+        → record { answer = Done w.0; state = running s d b pointer } ≡ returning s f
+    cross_back some pointer p =
+        let (t, e) = kept_cross (damaged s f) f w b d h in
+        rw (ne_eqb s.safepointer.0 s.config.safe.0 (omega arith), t, e, p)
+
+  pub damage_back : s.config.safe.0 < s.safepointer.0 → judged s f ≡ Damage → record { answer = Refused DamagedFrame; state = s } ≡ returning s f
+  damage_back some h =
+      rw (ne_eqb s.safepointer.0 s.config.safe.0 (omega arith), told_damage s f (damaged s f) refl h)
 
 -- ---- what a return gives
 

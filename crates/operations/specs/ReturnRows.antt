@@ -1,36 +1,21 @@
--- The domain that a frame returns to, the rows that a return has for its frame, and what it hands back.
-use Rattle.std.specs.Prelude.{ℕ, not}
-use Rattle.rules.specs.declared.FlashWord.{FlashWord}
-use Rattle.rules.specs.declared.Range.{Range}
+-- The domain that a frame returns to, the frame with its damage told, and what a return hands back for it.
+use Rattle.std.specs.Prelude.{ℕ, cond}
 use Rattle.rules.specs.declared.State.{State}
 use Rattle.rules.specs.declared.Frame.{Frame}
 use Rattle.rules.specs.declared.Frame.TheVariants.{Local, Cross, Damage}
 use Rattle.rules.specs.declared.Answer.{Answer}
 use Rattle.rules.specs.declared.Answer.TheVariants.{Done, Refused}
 use Rattle.rules.specs.declared.Outcome.{Outcome}
-use Rattle.rules.specs.declared.Refusal.TheVariants.{DamagedFrame, NoCode}
-use Rattle.rules.specs.Code.{is_end, is_site}
-use Rattle.rules.specs.Answers.{◌⇒◌∣◌}
-use Rattle.rules.specs.Return.{damaged, to_end, site_of, return_rows, returned}
+use Rattle.rules.specs.Return.{damaged, return_rows, returned}
 
 abbrev pub caller_of : State → Frame → ℕ
 caller_of s (Local site) = s.domain
 caller_of s (Cross site bound d) = d
 caller_of s Damage = s.domain
 
--- of a return site in the code range of the domain returned to
-abbrev pub site_rows : Range → FlashWord → Answer
-site_rows r w =
-    not (is_site r w) ⇒ DamagedFrame ∣
-    is_end r w ⇒ NoCode ∣
-    Done w.0
-
--- of a frame, below the row of a return that finds none
-abbrev pub frame_rows : State → Frame → Answer
-frame_rows s f =
-    damaged s f ⇒ DamagedFrame ∣
-    to_end s f ⇒ NoCode ∣
-    Done (site_of f)
+-- a frame that is damaged in this state is Damage
+abbrev pub judged : State → Frame → Frame
+judged s f = cond (damaged s f) Damage f
 
 -- s after a refusal, s' when done
 abbrev pub handed : Answer → State → State → Outcome

@@ -5,7 +5,7 @@ ghost use Rattle.rules.specs.State.{good_state};
 ghost use Rattle.rules.specs.Call.{call_rows};
 ghost use Rattle.operations.specs.CallRows.{table_of, CalledCode, local_rows, cross_rows};
 
-use crate::code_ranges::{in_range, is_site};
+use crate::code_ranges::in_range;
 use crate::looked_at::{TABLE_WORDS, domain_of};
 use rules::{Answer, Config, FlashWord, RamByte, Range, Refusal, State};
 
@@ -79,7 +79,7 @@ pub fn answer(
     ensures { result ≡ call_rows state (table_of word) target site pointer }
 {
     let config = state.config;
-    if !is_site(code, site) {
+    if !in_range(code, site) {
         return Answer::Refused(Refusal::SiteOutside);
     }
     if target.0 < config.jt.0 {

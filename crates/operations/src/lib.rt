@@ -95,23 +95,36 @@ pub fn call_with(
     }
 }
 
-// A return is handed the frame below the safe pointer and the code range of the domain that it returns to, and no byte of RAM. The state without the
-// frame comes first, and the answer is made anew: the other way around, or with the answer that was matched on, it costs more.
+// A return is handed the frame below the safe pointer and the code range of the domain that it returns to, and no byte of RAM.
 pub fn ret_with(state: State, frame: Frame, code: Range) -> Outcome
     requires { (state.config.safe.0 < state.safepointer.0) × (length (frame_bytes frame) ≤ state.safepointer.0) × (code ≡ range_of state.config (caller_of state frame)) }
     ensures { result ≡ returning state frame }
 {
-    let next = states::popped(state, frame);
-    let answer = return_check::answer(state, frame, code);
-    match answer {
-        Answer::Done(site) => Outcome {
-            answer: Answer::Done(site),
-            state: next,
-        },
-        Answer::Refused(refusal) => Outcome {
-            answer: Answer::Refused(refusal),
-            state,
-        },
+    let found = return_check::judged(state, frame, code);
+    let mut next = state;
+    match found {
+        Frame::Local(site) => {
+            next.safepointer = address::below(state.safepointer, frames::LOCAL_BYTES);
+            let answer = Answer::Done(site.0);
+            return Outcome {
+                answer,
+                state: next,
+            };
+        }
+        Frame::Cross(site, bound, domain) => {
+            next.domain = domain;
+            next.bound = bound;
+            next.safepointer = address::below(state.safepointer, frames::CROSS_BYTES);
+            let answer = Answer::Done(site.0);
+            return Outcome {
+                answer,
+                state: next,
+            };
+        }
+        Frame::Damage => {
+            let answer = Answer::Refused(Refusal::DamagedFrame);
+            return Outcome { answer, state };
+        }
     }
 }
 

@@ -1,40 +1,35 @@
-// Section 5, return: which answer a frame gets.
+// Section 5, return: whether the frame is damaged.
 ghost use Rattle.std.specs.Prelude.{◌≡◌};
 ghost use Rattle.rules.specs.Code.{range_of};
-ghost use Rattle.operations.specs.ReturnRows.{caller_of, site_rows, frame_rows};
+ghost use Rattle.operations.specs.ReturnRows.{caller_of, judged};
 
-use crate::code_ranges::{in_range, is_end};
-use rules::{Answer, FlashWord, Frame, Range, Refusal, State};
+use crate::code_ranges::in_range;
+use rules::{Frame, Range, State};
 
-// By its return site alone. Nearly every site lies in the range: that is asked first.
-fn site_answer(code: Range, site: FlashWord) -> Answer
-    ensures { result ≡ site_rows code site }
-{
-    if in_range(code, site) {
-        return Answer::Done(site.0);
-    }
-    if is_end(code, site) {
-        return Answer::Refused(Refusal::NoCode);
-    }
-    Answer::Refused(Refusal::DamagedFrame)
-}
-
-// Code is the range of the domain that the frame returns to.
-pub fn answer(state: State, frame: Frame, code: Range) -> Answer
+// The frame, or Damage where it does not fit the state; code is the range of the domain that it returns to.
+pub fn judged(state: State, frame: Frame, code: Range) -> Frame
     requires { code ≡ range_of state.config (caller_of state frame) }
-    ensures { result ≡ frame_rows state frame }
+    ensures { result ≡ judged state frame }
 {
     match frame {
-        Frame::Local(site) => site_answer(code, site),
+        Frame::Local(site) => {
+            if !in_range(code, site) {
+                return Frame::Damage;
+            }
+            return frame;
+        }
         Frame::Cross(site, bound, _) => {
+            if !in_range(code, site) {
+                return Frame::Damage;
+            }
             if bound.0 < state.bound.0 {
-                return Answer::Refused(Refusal::DamagedFrame);
+                return Frame::Damage;
             }
             if address::RAM_BYTES <= bound.0 {
-                return Answer::Refused(Refusal::DamagedFrame);
+                return Frame::Damage;
             }
-            site_answer(code, site)
+            return frame;
         }
-        Frame::Damage => Answer::Refused(Refusal::DamagedFrame),
+        Frame::Damage => return Frame::Damage,
     }
 }

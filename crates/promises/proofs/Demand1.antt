@@ -26,9 +26,8 @@ use Rattle.rules.specs.Free.{blocks_at}
 use Rattle.rules.specs.Operations.{Lent, wrong_lent, Seen, seen_by, rows_of, state_after, ram_after, answer_by}
 use Rattle.laws.proofs.Tests.{by_test, both}
 use Rattle.laws.proofs.Rows.{rows, give_answer}
-use Rattle.promises.specs.History.{Unaltered}
 use Rattle.promises.specs.Promise.{◌∈◌}
-use Rattle.promises.specs.Demand1.{set_up_numbers, numbers_of, Demand1}
+use Rattle.promises.specs.Demand1.{set_up_numbers, numbers_of, Unaltered, Demand1}
 use Rattle.promises.proofs.Says.{answer_by_lem}
 use Rattle.promises.proofs.SetUp.{set_up_tests}
 use Rattle.promises.proofs.Store.{store_tests}

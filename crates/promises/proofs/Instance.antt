@@ -1,5 +1,5 @@
--- The sample's history and a trusted store after it are as assumed; and the incident's; and that of a call as a last word; and the first as a run
--- from C. So what is promised is promised of something. The checker computes their ghosts, and that each of their stores is one that is allowed.
+-- The sample's history and a trusted store after it are as assumed; and the incident's; and the first as a run from C. So what is promised is
+-- promised of something. The checker computes their ghosts, and that each of their stores is one that is allowed.
 -- Assumes nothing.
 use Prim.Native.Nat.{ℕ, zero, suc, ◌+◌, ◌≤◌, ◌<◌}
 use mathlib.Core.Path.{◌≡◌, refl, sym, ap, ◌∙◌, subst}
@@ -13,9 +13,9 @@ use borrow.Author.Tests.{ltb-true, le-leb, lt-ltb, eq-eqb, not-true}
 use Rattle.rules.specs.declared.RamByte.{RamByte}
 use Rattle.rules.specs.declared.Config.{Config}
 use Rattle.rules.specs.declared.Operation.{Operation}
-use Rattle.rules.specs.declared.Operation.TheVariants.{Store, Return, Free}
+use Rattle.rules.specs.declared.Operation.TheVariants.{Store, Free}
 use Rattle.rules.specs.Memory.{ram_bytes, divided_up, block_bytes, start_of, block_of, blocks_for, blocks, heap_block, safe_block, is_multiple, radix, per_byte, map_bytes_for, map_bytes, digit, set_digit, map_byte, map_digit, code_of, set_code, set_codes, start_code, later_code, free_code, owner_of, starts_segment, is_domain, is_module, is_free, trusted}
-use Rattle.rules.specs.Code.{flash_word, ordered, apart_from, all_apart}
+use Rattle.rules.specs.Code.{ordered, apart_from, all_apart}
 use Rattle.rules.specs.State.{ram_byte, good_config, good_state}
 use Rattle.rules.specs.Bytes.{words_at, ranges_at, ranges_as_bytes}
 use Rattle.rules.specs.Answers.{number_of}
@@ -27,9 +27,9 @@ use Rattle.rules.specs.Slot.{config_in, slot_of, table_in, wrong_table, c_set_up
 use Rattle.laws.proofs.Tests.{both, neither, and-true}
 use Rattle.promises.specs.History.{Asked, History, set_up, ◌then◌, after, ram_of, config_of, domain_of, answer_to, Says, Stores, InMap, InSafeStack, Bytes, BytesGiven, Assumed, none, next as more}
 use Rattle.promises.specs.Ledger.{entered, replaced_at, ledger, InSegment}
-use Rattle.promises.specs.Calls.{cross, OpenCall, open_calls, RefusedWith}
+use Rattle.promises.specs.Calls.{open_calls}
 use Rattle.promises.specs.Sample.{sample, sample_table, zero_ram, sample_operations}
-use Rattle.promises.specs.Instance.{scripted, played, history_of_script, sample_history, last_store, store_after, incident_operations, incident_history, last_word_operations, last_word_history, segment, Ghosts, sample_slot, sample_table_bytes, called_from_c, played_from_c, sample_run, SampleFromC}
+use Rattle.promises.specs.Instance.{scripted, played, history_of_script, sample_history, last_store, store_after, incident_operations, incident_history, segment, Ghosts, sample_slot, sample_table_bytes, called_from_c, played_from_c, sample_run, SampleFromC}
 use Rattle.promises.specs.Promise.{Promise}
 use Rattle.promises.specs.FromC.{RunFromC, set_up_from_c, ◌next◌, asked_from_c, history_from_c, PremiseFromC, FromC}
 use Rattle.promises.specs.Incident.{Incident}
@@ -245,27 +245,3 @@ incident_refused b =
     ((incident incident_history incident_assumed 0 (segment 320 1 1) incident_there
     ).powerless incident_history (incident_assumed, none) incident_computed.again0
     ).refused 320 (first_byte 1) (scripted (Store (ram_byte 320) b)) b refl
-
--- ---- a call as the last word of a module
-
--- it was made to domain 0 with pointer 4000, at 100, by the trusted domain with bound 4095
-abbrev last_word_call : OpenCall
-last_word_call = record { kind = cross 0 (ram_byte 4000); site = flash_word 100; domain = trusted; bound = ram_byte 4095 }
-
-record LastWordComputed : Type 0 where
-  config : config_of last_word_history ≡ sample
-  calls : open_calls last_word_history ≡ last_word_call ∷ []
-
-last_word_computed : LastWordComputed
-unfolding as_store after config_of ledger open_calls entered replaced_at divided_up block_bytes block_of blocks_for blocks heap_block safe_block is_multiple radix per_byte map_bytes_for map_bytes digit set_digit map_byte map_digit code_of set_code set_codes start_code later_code free_code owner_of starts_segment is_domain is_module ordered apart_from all_apart good_config good_state set_up_code set_up_codes set_up_ram start_of is_free read_frame free_run first_run lowest_run continued segment_blocks
-last_word_computed = record { config = refl; calls = refl }
-
-last_word_assumed : Assumed last_word_history
-unfolding as_store
-last_word_assumed = played_assumed (set_up sample zero_ram) computed.set_up_done last_word_operations refl
-
--- it was done, and its return is refused with 21 and alters nothing
-pub last_word_refused : RefusedWith 21 (after last_word_history) (after (last_word_history then scripted Return))
-last_word_refused =
-    let returns = (promise last_word_history last_word_assumed).returns (scripted Return) refl in
-    (rw (last_word_computed.config, last_word_computed.calls) at returns).0 refl

@@ -1,11 +1,11 @@
--- P1 to P10 hold, and the limits of return sites: the checker computes each.
+-- P1 to P10 hold: the checker computes each.
 -- Assumes nothing.
 use mathlib.Core.Path.{refl}
 use Rattle.rules.specs.Memory.{divided_up, block_bytes, block_of, blocks_for, blocks, heap_block, safe_block, is_multiple, radix, per_byte, map_bytes_for, map_bytes, digit, set_digit, map_byte, map_digit, code_of, set_code, set_codes, start_code, later_code, free_code, owner_of, starts_segment, is_domain, is_module}
 use Rattle.rules.specs.Code.{ordered, apart_from, all_apart}
 use Rattle.rules.specs.State.{good_config, good_state}
 use Rattle.rules.specs.SetUp.{set_up_code, set_up_codes, set_up_ram}
-use Rattle.promises.specs.Limits.{Limits, SiteLimits}
+use Rattle.promises.specs.Limits.{Limits}
 
 pub limits : Limits
 unfolding divided_up block_bytes block_of blocks_for blocks heap_block safe_block is_multiple radix per_byte map_bytes_for map_bytes digit set_digit map_byte map_digit code_of set_code set_codes start_code later_code free_code owner_of starts_segment is_domain is_module ordered apart_from all_apart good_config good_state set_up_code set_up_codes set_up_ram
@@ -22,6 +22,3 @@ limits =
       p9 = (refl, refl, refl);
       p10 = refl;
     }
-
-pub site_limits : SiteLimits
-site_limits = record { first = (refl, refl); last = (refl, refl, refl); empty = refl; end = (refl, refl, refl); below = (refl, refl) }

@@ -15,27 +15,26 @@ use Rattle.rules.specs.declared.Frame.{Frame}
 use Rattle.rules.specs.declared.Answer.TheVariants.{Done, Refused}
 use Rattle.rules.specs.declared.Refusal.{Refusal}
 use Rattle.rules.specs.declared.Operation.TheVariants.{Return}
-use Rattle.rules.specs.declared.Refusal.TheVariants.{NoFrame, DamagedFrame, NoCode}
+use Rattle.rules.specs.declared.Refusal.TheVariants.{NoFrame, DamagedFrame}
 use Rattle.rules.specs.Memory.{ram_bytes, in_use}
 use Rattle.rules.specs.State.{ram_byte, running}
 use Rattle.rules.specs.Call.{frame_bytes}
-use Rattle.rules.specs.Answers.{◌⇒◌∣◌, Given}
-use Rattle.rules.specs.Return.{read_frame, top_frame, damaged, to_end, site_of, return_rows, returned}
+use Rattle.rules.specs.Return.{read_frame, top_frame, damaged, site_of, returned}
 use Rattle.rules.specs.Operations.{Lent, answer_by, operation_of}
-use Rattle.laws.proofs.Tests.{by_test, or_false}
+use Rattle.laws.proofs.Tests.{or_false}
+use Rattle.laws.proofs.Rows.{none_holds}
 use Rattle.laws.proofs.Parts.{slice_as}
 use Rattle.laws.proofs.Frames.{IsFrame, read_frame-back}
 use Rattle.laws.proofs.Codes.{domain_le}
 use Rattle.laws.proofs.Good.{good_state-true}
 use Rattle.laws.proofs.Operations.{below}
 use Rattle.promises.specs.Ledger.{Segment}
-use Rattle.promises.specs.Calls.{Kind, local, cross, OpenCall, domain_inside, bound_inside, frame_for, frames_of, last_word, Returns}
+use Rattle.promises.specs.Calls.{Kind, local, cross, OpenCall, domain_inside, bound_inside, frame_for, frames_of, Returns}
 use Rattle.promises.proofs.Holds.{Link, Holds, Kept, plain}
 
 -- the table of return
 abbrev pub return_tests : State → Frame → List (Bool × Refusal)
-return_tests s frame =
-    (eqb s.safepointer.0 s.config.safe.0, NoFrame) ∷ (damaged s frame, DamagedFrame) ∷ (to_end s frame, NoCode) ∷ []
+return_tests s frame = (eqb s.safepointer.0 s.config.safe.0, NoFrame) ∷ (damaged s frame, DamagedFrame) ∷ []
 
 -- ---- a frame by the call's kind
 
@@ -57,10 +56,6 @@ module _ (s : State) (k : OpenCall) (ks : List OpenCall) (link : Link s.config k
   sound (cross f p) current bound =
       rw link.site
       (or_false _ _ (le-ltb k.bound.0 s.bound.0 bound) (lt-leb ram_bytes k.bound.0 link.bound<ram))
-
-  to_end : (kind : Kind) → s.domain ≡ domain_inside kind k.domain → to_end s (frame_for kind k) ≡ last_word s.config k
-  to_end local current = rw current
-  to_end (cross f p) current = refl
 
   -- the state as it was before the call, the frame gone
   abbrev before : Kind → State
@@ -105,17 +100,14 @@ module _ (s : State) (ram : List ℕ) (gs : List Segment) (k : OpenCall) (ks : L
   unfolding frames_of
   top_frame_lem = ap read_frame h.frames ∙ read_frame-back (frame_for k.kind k) (is_frame s k ks h.chain.0 k.kind) (frames_of ks)
 
-  -- only the last row of its table can refuse it
-  returns_by : (l : Lent) → answer_by in_use s ram l Return ≡ (last_word s.config k ⇒ NoCode ∣ Done k.site.0)
-  returns_by l =
+  returns_site : (l : Lent) → answer_by in_use s ram l Return ≡ Done k.site.0
+  returns_site l =
       below s ram l Return refl h.size (good_state-true s h.good)
-      ∙ ap (return_rows s) top_frame_lem
-      ∙ (rw (
+      ∙ none_holds (return_tests s (top_frame s ram)) (Done (site_of (top_frame s ram))) (
         ne_eqb s.safepointer.0 s.config.safe.0 (λ e. omega (arith, held, frame_some k.kind k)),
-        sound s k ks h.chain.0 k.kind h.current bound≤,
-        to_end s k ks h.chain.0 k.kind h.current,
-        site_of_lem k.kind k,
-      ))
+        (ap (damaged s) top_frame_lem ∙ sound s k ks h.chain.0 k.kind h.current bound≤, tt),
+      )
+      ∙ ap Done (ap site_of top_frame_lem ∙ site_of_lem k.kind k)
 
   returns_state : returned s (top_frame s ram) ≡ before s k ks h.chain.0 k.kind
   returns_state = ap (returned s) top_frame_lem ∙ back s k ks h.chain.0 k.kind h.current h.bound
@@ -153,15 +145,11 @@ module _ (s : State) (ram : List ℕ) (gs : List Segment) (k : OpenCall) (ks : L
 -- ---- both
 
 pub return_gives : (s : State) (ram : List ℕ) (gs : List Segment) (ks : List OpenCall) → Holds s ram gs ks → (l : Lent)
-    → (m : Given) → m.state ≡ s → m.ram ≡ ram → Returns s.config ks m (operation_of s ram l Return)
-return_gives s ram gs [] h l m e q =
-    rw (no_frame s ram gs h l) (refl, record { value = refl; state = sym e; memory = sym q })
-return_gives s ram gs (k ∷ ks) h l m e q = (
-  λ t. rw (returns_by s ram gs k ks h l, t) (refl, record { value = refl; state = sym e; memory = sym q }),
-  λ t.
-      rw (returns_by s ram gs k ks h l, t)
-      ((refl, refl), ap (λ (u : State). u.domain) (returns_state s ram gs k ks h), ap (λ (u : State). u.bound) (returns_state s ram gs k ks h)),
-)
+    → Returns ks (operation_of s ram l Return)
+return_gives s ram gs [] h l = rw (no_frame s ram gs h l) (refl, refl)
+return_gives s ram gs (k ∷ ks) h l =
+    rw (returns_site s ram gs k ks h l)
+    ((refl, refl), ap (λ (t : State). t.domain) (returns_state s ram gs k ks h), ap (λ (t : State). t.bound) (returns_state s ram gs k ks h))
 
 pub return_kept : (s : State) (ram : List ℕ) (gs : List Segment) (ks : List OpenCall) → Holds s ram gs ks → (l : Lent)
     → Kept s ram gs ks Return (operation_of s ram l Return)
@@ -170,11 +158,6 @@ return_kept s ram gs [] h l =
     (plain s ram gs [] Return (record { answer = Refused NoFrame; state = s; ram = ram }) (h, λ x out. refl, λ b. b))
 return_kept s ram gs (k ∷ ks) h l =
     let s' : State = before s k ks h.chain.0 k.kind in
-    by_test (last_word s.config k)
-    (λ t.
-    rw (returns_by s ram gs k ks h l, t)
-    (plain s ram gs (k ∷ ks) Return (record { answer = Refused NoCode; state = s; ram = ram }) (h, λ x out. refl, λ b. b)))
-    (λ t.
-    rw (returns_by s ram gs k ks h l, t, returns_state s ram gs k ks h)
+    rw (returns_site s ram gs k ks h l, returns_state s ram gs k ks h)
     (plain s ram gs (k ∷ ks) Return (record { answer = Done k.site.0; state = s'; ram = ram })
-    (pop_keeps s ram gs k ks h, λ x out. refl, λ b. b)))
+    (pop_keeps s ram gs k ks h, λ x out. refl, λ b. b))

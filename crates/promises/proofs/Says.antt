@@ -9,7 +9,7 @@ use Rattle.rules.specs.declared.Operation.{Operation}
 use Rattle.rules.specs.declared.Answer.{Answer}
 use Rattle.rules.specs.declared.Answer.TheVariants.{Done, Refused}
 use Rattle.rules.specs.declared.Refusal.{Refusal}
-use Rattle.rules.specs.declared.Refusal.TheVariants.{WrongSize, BrokenRule, BadState, PastRam, OtherOwner, AboveBound, SiteOutside, TargetOutside, PastTables, BadEntry, PointerOutside, PassesTop, NoFrame, DamagedFrame, TrustedMalloc, SizeZero, NoRun, NoSegment, NotOwner, DomainAbove, NoCode}
+use Rattle.rules.specs.declared.Refusal.TheVariants.{WrongSize, BrokenRule, BadState, PastRam, OtherOwner, AboveBound, SiteOutside, TargetOutside, PastTables, BadEntry, PointerOutside, PassesTop, NoFrame, DamagedFrame, TrustedMalloc, SizeZero, NoRun, NoSegment, NotOwner, DomainAbove}
 use Rattle.rules.specs.Memory.{in_use, layout_of}
 use Rattle.rules.specs.Answers.{number_of_refusal}
 use Rattle.rules.specs.Operations.{Lent, seen_by, rows_of, state_after, ram_after, answer_by, operation_of}
@@ -39,7 +39,6 @@ refusal_some NoRun = omega arith
 refusal_some NoSegment = omega arith
 refusal_some NotOwner = omega arith
 refusal_some DomainAbove = omega arith
-refusal_some NoCode = omega arith
 
 pub says_done : (a : Answer) (v : ℕ) → Says a 0 v → a ≡ Done v
 says_done (Done w) v (_, e) = ap Done e

@@ -27,12 +27,11 @@ use Rattle.promises.proofs.Change.{none_shared_lem, segment_step_lem, stack_step
 outside : (c : Config) (k : ℕ) → (IsHeapBlock c k → ⊥) → heap_block c ≤ k → safe_block c ≤ k
 outside c k out l = let u : safe_block c < suc k = lt_of_not-le (λ u. out (l, u)) in omega arith
 
-returns_after : (h : History) → HoldsAfter h → (o : Asked) → o.operation ≡ Return
-    → Returns (state_of h).config (open_calls h) (after h) (after (h then o))
+returns_after : (h : History) → HoldsAfter h → (o : Asked) → o.operation ≡ Return → Returns (open_calls h) (after (h then o))
 unfolding after
 returns_after h i o e =
-    subst (λ (op : Operation). Returns (state_of h).config (open_calls h) (after h) (operation_of (state_of h) (ram_of h) o.lent op)) (sym e)
-    (return_gives (state_of h) (ram_of h) (ledger h) (open_calls h) i o.lent (after h) refl refl)
+    subst (λ (op : Operation). Returns (open_calls h) (operation_of (state_of h) (ram_of h) o.lent op)) (sym e)
+    (return_gives (state_of h) (ram_of h) (ledger h) (open_calls h) i o.lent)
 
 pub promise : Demand3
 promise h a =
@@ -53,7 +52,7 @@ promise h a =
       safe_stack = rw (← e) i.frames;
       current = i.current;
       bound = i.bound;
-      returns = rw (← e) (returns_after h i);
+      returns = returns_after h i;
       segment_step = λ g o. segment_step_lem h (e, i) o g;
       segment_stretch = λ g x q from.
           stretch_same (λ l o. ((g ∈ ledger l) ⊎ (g ∈ ledger (l then o))) × (StoredByHolder g x l o → ⊥)) x from (config_of h)

@@ -1,6 +1,6 @@
 -- The open calls, made from the accepted calls and returns, and the bytes of their frames.
 -- No axiom.
-use Rattle.std.specs.Prelude.{ℕ, ◌-◌, ◌≡◌, Bool, true, false, cond, List, [], ◌∷◌, ◌++◌}
+use Rattle.std.specs.Prelude.{ℕ, ◌-◌, ◌≡◌, cond, List, [], ◌∷◌, ◌++◌}
 use Rattle.rules.specs.declared.RamByte.{RamByte}
 use Rattle.rules.specs.declared.FlashWord.{FlashWord}
 use Rattle.rules.specs.declared.Config.{Config}
@@ -11,11 +11,11 @@ use Rattle.rules.specs.declared.Operation.TheVariants.{Store, Call, Return, Mall
 use Rattle.rules.specs.declared.Answer.{Answer}
 use Rattle.rules.specs.declared.Answer.TheVariants.{Done, Refused}
 use Rattle.rules.specs.Memory.{ram_bytes, trusted}
-use Rattle.rules.specs.Code.{is_local, called_domain, at_end}
+use Rattle.rules.specs.Code.{is_local, called_domain}
 use Rattle.rules.specs.State.{ram_byte}
 use Rattle.rules.specs.Call.{frame_bytes}
-use Rattle.rules.specs.Answers.{Given, number_of}
-use Rattle.promises.specs.History.{History, set_up, ◌then◌, config_of, answer_to, Says, Unaltered}
+use Rattle.rules.specs.Answers.{Given}
+use Rattle.promises.specs.History.{History, set_up, ◌then◌, config_of, answer_to, Says}
 
 -- a cross-domain call was made to a domain, with a stack pointer
 pub data Kind : Type 0 where
@@ -90,20 +90,8 @@ unfoldable pub frames_of : List OpenCall → List ℕ
 frames_of [] = []
 frames_of (k ∷ ks) = frames_of ks ++ frame_bytes (frame_for k.kind k)
 
--- ---- a return
-
--- document 02, Ask 2: "A call as the last word of a module": its return site is the end of the code range of the domain that made it
-abbrev pub last_word : Config → OpenCall → Bool
-last_word c k = at_end c k.domain k.site
-
--- the machine m gives g: a refusal with number n, and nothing is altered
-abbrev pub RefusedWith : ℕ → Given → Given → Type 0
-RefusedWith n m g = (number_of g.answer ≡ n) × Unaltered g m.state m.ram
-
--- what the machine m must give to a return, by the calls that are open: 13 if there are none; 21 if the newest was the last word of its
--- module; otherwise its return site, and the domain and the bound that were there before it
-abbrev pub Returns : Config → List OpenCall → Given → Given → Type 0
-Returns c [] m g = RefusedWith 13 m g
-Returns c (k ∷ ks) m g =
-    (last_word c k ≡ true → RefusedWith 21 m g)
-    × (last_word c k ≡ false → Says g.answer 0 k.site.0 × (g.state.domain ≡ k.domain) × (g.state.bound ≡ k.bound))
+-- what a return must give, by the calls that are open: refused with 13 if there are none; otherwise the newest one's return site, and
+-- the domain and the bound that were there before it
+abbrev pub Returns : List OpenCall → Given → Type 0
+Returns [] g = Says g.answer 13 0
+Returns (k ∷ ks) g = Says g.answer 0 k.site.0 × (g.state.domain ≡ k.domain) × (g.state.bound ≡ k.bound)

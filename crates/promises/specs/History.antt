@@ -50,12 +50,6 @@ byte_at h x = get_or (ram_of h) x 0
 abbrev pub Says : Answer → ℕ → ℕ → Type 0
 Says a n v = (number_of a ≡ n) × (value_of a ≡ v)
 
--- what a refusal gives: value 0, this state and this RAM
-pub record Unaltered (g : Given) (s : State) (ram : List ℕ) : Type 0 where
-  pub value : value_of g.answer ≡ 0
-  pub state : g.state ≡ s
-  pub memory : g.ram ≡ ram
-
 -- what is answered when o is asked next
 abbrev pub answer_to : History → Asked → Answer
 answer_to h o = (operation_of (state_of h) (ram_of h) o.lent o.operation).answer

@@ -1,6 +1,5 @@
--- Three histories that are as assumed, so that what is promised is promised of something: the sample's seventeen operations (section 7) and a
--- trusted store after them; an incident; and a call as the last word of a module. And the first of them as a run from C. One table is lent to
--- every operation.
+-- Two histories that are as assumed, so that what is promised is promised of something: the sample's seventeen operations (section 7) and a
+-- trusted store after them; and an incident. And the first of them as a run from C. One table is lent to every operation.
 use Rattle.std.specs.Prelude.{ℕ, ◌≡◌, List, [], ◌∷◌, ◌++◌, take, replicate, set}
 use Rattle.rules.specs.declared.Operation.{Operation}
 use Rattle.rules.specs.declared.Operation.TheVariants.{Store, Call, Return, Malloc, Free}
@@ -52,13 +51,6 @@ incident_operations =
 
 abbrev pub incident_history : History
 incident_history = history_of_script incident_operations
-
--- the trusted domain calls domain 0 as the last word of its code: that ends at 100, where domain 0's code starts
-abbrev pub last_word_operations : List Operation
-last_word_operations = Call (flash_word 4096) (flash_word 100) (ram_byte 4000) ∷ []
-
-abbrev pub last_word_history : History
-last_word_history = history_of_script last_word_operations
 
 abbrev pub segment : ℕ → ℕ → ℕ → Segment
 segment a n d = record { address = a; blocks = n; owner = d }

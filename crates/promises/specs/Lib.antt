@@ -1,4 +1,4 @@
--- What is promised, to be read beside documents 01 and 02. The files stand in the order in which they are read.
+-- What is promised, to be read beside document 01. The files stand in the order in which they are read.
 --
 -- `A → B`              if A then B              `(x : ℕ) → ..`       for every number x
 -- `A × B`              both                     `(x : ℕ) × ..`       there is a number x
@@ -34,7 +34,7 @@ pub mod Incident
 pub mod Demand1
 pub mod Room
 pub mod Uniqueness
--- section 8, and the limits of document 02
+-- section 8
 pub mod Sample
 pub mod Limits
 pub mod Instance

@@ -1,8 +1,8 @@
--- Section 8: both sides of each limit, P1 to P10, with the sample's configuration, in the terms of the rules; and those of document 02, Ask 2.
+-- Section 8: both sides of each limit, P1 to P10, with the sample's configuration, in the terms of the rules.
 use Rattle.std.specs.Prelude.{ℕ, ◌+◌, ◌≡◌, true, false, List, [], ◌∷◌, get_or, leb}
 use Rattle.std.proofs.Math.Seq.{slice}
 use Rattle.rules.specs.Memory.{Layout, layout_of, block_of, blocks_for, map_bytes_for, map_byte, set_codes, free_code, starts_segment, owner_of}
-use Rattle.rules.specs.Code.{flash_word, table_words, range_of, in_range, table_word, called_domain, good_site, at_end}
+use Rattle.rules.specs.Code.{flash_word, table_words, table_word, called_domain}
 use Rattle.rules.specs.State.{ram_byte, fresh}
 use Rattle.rules.specs.SetUp.{set_up_of}
 use Rattle.rules.specs.Operations.{call_of}
@@ -40,15 +40,3 @@ pub record Limits : Type 0 where
   pub p9 : (map_bytes_for sample_map 31 ≡ 16) × (map_bytes_for sample_map 32 ≡ 16) × (map_bytes_for sample_map 512 ≡ 256)
   -- "P10 the sample's first frame is 50, 0, 255, 15, 7."
   pub p10 : slice sample.safe.0 (sample.safe.0 + 5) after_call ≡ 50 ∷ 0 ∷ 255 ∷ 15 ∷ 7 ∷ []
-
--- Ask 2: domain 0's code is 100 up to 200, where domain 1's starts; domain 2 has none, 0 to 0
-pub record SiteLimits : Type 0 where
-  -- "A return site may now equal end": 100, 199 and 200 are sites, 99 and 201 are none
-  pub first : (good_site sample 0 (flash_word 99) ≡ false) × (good_site sample 0 (flash_word 100) ≡ true)
-  pub last : (good_site sample 0 (flash_word 199) ≡ true) × (good_site sample 0 (flash_word 200) ≡ true) × (good_site sample 0 (flash_word 201) ≡ false)
-  -- "if the range is not empty"
-  pub empty : good_site sample 2 (flash_word 0) ≡ false
-  -- "no code stands there": of domain 0's at 200; of domain 1's there does
-  pub end : (at_end sample 0 (flash_word 199) ≡ false) × (at_end sample 0 (flash_word 200) ≡ true) × (at_end sample 1 (flash_word 200) ≡ false)
-  -- targets and entries stay below the end
-  pub below : (in_range (range_of sample 0) (flash_word 199) ≡ true) × (in_range (range_of sample 0) (flash_word 200) ≡ false)

@@ -81,9 +81,8 @@ pub record Promise (h : History) : Type 0 where
   -- and the current domain and the stack bound are those that the open calls leave, the trusted domain and 4095 if there are none
   pub current : domain_of h ≡ domain_left (open_calls h)
   pub bound : (state_of h).bound ≡ bound_left (open_calls h)
-  -- "a return is refused only when there are none", by document 02, Ask 2 "or the newest open one has such a site", "and otherwise restores
-  -- its own call's address, domain and stack bound"
-  pub returns : (o : Asked) → o.operation ≡ Return → Returns (config_of h) (open_calls h) (after h) (after (h then o))
+  -- "a return is refused only when there are none, and otherwise restores its own call's address, domain and stack bound"
+  pub returns : (o : Asked) → o.operation ≡ Return → Returns (open_calls h) (after (h then o))
   -- "While a segment stays with one domain, its bytes change only by stores made when that domain or the trusted one is current": if the
   -- operation asked next changes one, it is such a store, whether the segment was there before or is made by that operation;
   pub segment_step : (g : Segment) (o : Asked) → (g ∈ ledger h) ⊎ (g ∈ ledger (h then o)) → (x : ℕ) → InSegment (config_of h) g x

@@ -1,1 +1,1 @@
-// What the rules promise, stated in specs/ and proved in proofs/. No code.
+// What document 01's rules promise, stated in specs/ and proved in proofs/. No code.

@@ -1,11 +1,11 @@
--- Section 6: answer numbers and their order, and 21 of document 02; and what an operation gives.
+-- Section 6: answer numbers and their order; and what an operation gives.
 use Rattle.std.specs.Prelude.{ℕ, ◌≡◌, Bool, true, false, List}
 use Rattle.rules.specs.declared.State.{State}
 use Rattle.rules.specs.declared.Outcome.{Outcome}
 use Rattle.rules.specs.declared.Answer.{Answer}
 use Rattle.rules.specs.declared.Answer.TheVariants.{Done, Refused}
 use Rattle.rules.specs.declared.Refusal.{Refusal}
-use Rattle.rules.specs.declared.Refusal.TheVariants.{WrongSize, BrokenRule, BadState, PastRam, OtherOwner, AboveBound, SiteOutside, TargetOutside, PastTables, BadEntry, PointerOutside, PassesTop, NoFrame, DamagedFrame, TrustedMalloc, SizeZero, NoRun, NoSegment, NotOwner, DomainAbove, NoCode}
+use Rattle.rules.specs.declared.Refusal.TheVariants.{WrongSize, BrokenRule, BadState, PastRam, OtherOwner, AboveBound, SiteOutside, TargetOutside, PastTables, BadEntry, PointerOutside, PassesTop, NoFrame, DamagedFrame, TrustedMalloc, SizeZero, NoRun, NoSegment, NotOwner, DomainAbove}
 
 infixr 10 ◌⇒◌∣◌
 -- a row of a table of refusals, and the rows below it: "no earlier applicable number does"
@@ -34,7 +34,6 @@ number_of_refusal NoRun = 17
 number_of_refusal NoSegment = 18
 number_of_refusal NotOwner = 19
 number_of_refusal DomainAbove = 20
-number_of_refusal NoCode = 21
 
 -- 0 is done
 abbrev pub number_of : Answer → ℕ

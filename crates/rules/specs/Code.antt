@@ -67,18 +67,6 @@ entry_of c table t = flash_word (get_or table (table_word c t) 0)
 abbrev pub good_entry : Config → List ℕ → FlashWord → Bool
 good_entry c table t = not (eqb (entry_of c table t).0 0) && in_range (range_of c (called_domain c t)) (entry_of c table t)
 
--- document 02, Ask 2: "A return site may now equal end, .. if the range is not empty."
-abbrev pub is_end : Range → FlashWord → Bool
-is_end r w = not (is_empty r) && eqb w.0 r.end.0
-
-abbrev pub is_site : Range → FlashWord → Bool
-is_site r w = in_range r w || is_end r w
-
--- section 5: "The return site must lie in the current domain's code range", at a call; at a return, in that of "the domain returned to"; or
--- be its end
+-- section 5: "The return site must lie in the current domain's code range", at a call; at a return, in that of "the domain returned to"
 abbrev pub good_site : Config → ℕ → FlashWord → Bool
-good_site c d site = is_site (range_of c d) site
-
--- "no code stands there"
-abbrev pub at_end : Config → ℕ → FlashWord → Bool
-at_end c d site = is_end (range_of c d) site
+good_site c d site = in_range (range_of c d) site

@@ -1,5 +1,5 @@
--- Document 01, a file for each part, in its order, as document 02 changes it (Ask 2 in Code, Answers and Return), and Slot, which document 02 adds (Ask 1);
--- but what is read and written as bytes, and the answers, stand before what uses them, and set-up and what any operation gives behind them.
+-- Document 01, a file for each part, in its order, and Slot, the one part of document 02 that is built (Ask 1); but what is read and written as
+-- bytes, and the answers, stand before what uses them, and set-up and what any operation gives behind them.
 pub mod Memory
 pub mod Code
 pub mod State

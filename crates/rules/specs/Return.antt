@@ -1,14 +1,14 @@
 -- Section 5: return.
-use Rattle.std.specs.Prelude.{ℕ, ◌-◌, Bool, true, false, cond, not, ◌||◌, List, length, get_or, leb, ltb, eqb}
+use Rattle.std.specs.Prelude.{ℕ, ◌-◌, Bool, true, cond, not, ◌||◌, List, length, get_or, leb, ltb, eqb}
 use Rattle.std.proofs.Math.Seq.{slice}
 use Rattle.rules.specs.declared.State.{State}
 use Rattle.rules.specs.declared.Frame.{Frame}
 use Rattle.rules.specs.declared.Frame.TheVariants.{Local, Cross, Damage}
 use Rattle.rules.specs.declared.Answer.{Answer}
 use Rattle.rules.specs.declared.Answer.TheVariants.{Done}
-use Rattle.rules.specs.declared.Refusal.TheVariants.{NoFrame, DamagedFrame, NoCode}
+use Rattle.rules.specs.declared.Refusal.TheVariants.{NoFrame, DamagedFrame}
 use Rattle.rules.specs.Memory.{ram_bytes, trusted}
-use Rattle.rules.specs.Code.{flash_word, good_site, at_end}
+use Rattle.rules.specs.Code.{flash_word, good_site}
 use Rattle.rules.specs.State.{ram_byte, running}
 use Rattle.rules.specs.Bytes.{word_at}
 use Rattle.rules.specs.Answers.{◌⇒◌∣◌}
@@ -27,18 +27,11 @@ read_frame used =
 abbrev pub top_frame : State → List ℕ → Frame
 top_frame s ram = read_frame (slice s.config.safe.0 s.safepointer.0 ram)
 
--- "an address outside the code range of the domain returned to", by document 02, Ask 2 unless it is the end; "an old bound below the present one or
--- above 4095"
+-- "an address outside the code range of the domain returned to; an old bound below the present one or above 4095"
 abbrev pub damaged : State → Frame → Bool
 damaged s (Local site) = not (good_site s.config s.domain site)
 damaged s (Cross site bound domain) = not (good_site s.config domain site) || ltb bound.0 s.bound.0 || leb ram_bytes bound.0
 damaged s Damage = true
-
--- document 02, Ask 2: "A return to it is refused, since no code stands there."
-abbrev pub to_end : State → Frame → Bool
-to_end s (Local site) = at_end s.config s.domain site
-to_end s (Cross site bound domain) = at_end s.config domain site
-to_end s Damage = false
 
 -- "Value: the address."
 abbrev pub site_of : Frame → ℕ
@@ -50,7 +43,6 @@ abbrev pub return_rows : State → Frame → Answer
 return_rows s frame =
     eqb s.safepointer.0 s.config.safe.0 ⇒ NoFrame ∣
     damaged s frame ⇒ DamagedFrame ∣
-    to_end s frame ⇒ NoCode ∣
     Done (site_of frame)
 
 -- the state with a frame popped: "A cross-domain frame restores domain and bound. Popped bytes stay in RAM."

@@ -1,4 +1,4 @@
-// The types of document 01, as document 02 changes them. What they mean stands in specs/, a file for each part.
+// The types of document 01. What they mean stands in specs/, a file for each part of it.
 
 // Section 1: three numbers that are never mixed.
 // A RAM byte address: any sixteen bits. One that lies in RAM is at most 4095, an end at most 4096.
@@ -54,7 +54,7 @@ pub enum Found {
     Nowhere,
 }
 
-// Section 6: the numbers 1 to 20, in order; then those of document 02.
+// Section 6: the numbers 1 to 20, in order.
 #[derive(Drop)]
 pub enum Refusal {
     WrongSize,
@@ -78,8 +78,6 @@ pub enum Refusal {
     NoSegment,
     NotOwner,
     DomainAbove,
-    // Ask 2: a return to the end of a code range
-    NoCode,
 }
 
 // Section 6: 0 with its value, or a refusal.

@@ -1,4 +1,4 @@
-// Set-up and the operations. Each gives what its rule gives, refusals included.
+// Set-up and the operations of document 01. Each gives what its rule gives, refusals included.
 ghost use Rattle.std.specs.Prelude.{◌≡◌, true, length};
 ghost use Rattle.rules.specs.Memory.{ram_bytes};
 ghost use Rattle.rules.specs.Code.{table_words};

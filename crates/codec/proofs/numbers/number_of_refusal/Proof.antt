@@ -63,9 +63,6 @@ enum-told-19 c = search rules
 enum-told-20 : tie.Need-enum-told-20
 enum-told-20 c = search rules
 
-enum-told-21 : tie.Need-enum-told-21
-enum-told-21 c = search rules
-
 returns : tie.Need-returns
 returns c = rw c.enum_told.given.1
 
@@ -126,9 +123,6 @@ returns-19 c = rw c.enum-told19.given.1
 returns-20 : tie.Need-returns-20
 returns-20 c = rw c.enum-told20.given.1
 
-returns-21 : tie.Need-returns-21
-returns-21 c = rw c.enum-told21.given.1
-
 pub number-of-refusal-spec : {M : Type 1} → statement M
 number-of-refusal-spec =
     tie.close
@@ -153,7 +147,6 @@ number-of-refusal-spec =
     enum-told-18
     enum-told-19
     enum-told-20
-    enum-told-21
     returns
     returns-2
     returns-3
@@ -173,5 +166,4 @@ number-of-refusal-spec =
     returns-17
     returns-18
     returns-19
-    returns-20
-    returns-21)
+    returns-20)

@@ -3,23 +3,21 @@ use mathlib.Core.Path.{◌≡◌, ◌∙◌}
 use mathlib.Core.Bool.{true}
 use Rattle.rules.specs.Code.{good_site}
 use Rattle.laws.proofs.Tests.{failed, passed}
-use Rattle.laws.proofs.Good.{good_state-facts, range_ordered}
 use Rattle.operations.specs.CallRows.{table_of}
 use Rattle.operations.proofs.CallRows.{local_rest, cross_rest}
+use borrow.Author.Rules.{rules}
 use Rattle.operations.proofs.call_check.answer.Statement.{statement}
 use Rattle.operations.proofs.call_check.answer.Tie as tie
 
-is-site-requires : tie.Need-is-site-requires
-is-site-requires c κs =
-    let x = c.before.args in
-    rw c.before.requires.1 (range_ordered (good_state-facts x.state c.before.requires.0).config x.state.domain).0
+in-range-requires : tie.Need-in-range-requires
+in-range-requires c κs = search rules
 
 returns : tie.Need-returns
-returns c = rw (rw c.before.before.before.requires.1 at (failed c.before.is-site.ensures c.if1.true))
+returns c = rw (rw c.before.before.before.requires.1 at (failed c.before.in-range.ensures c.if1.true))
 
 -- the return site passed its test
 inside : (c : tie.Else1) → good_site c.before.before.before.args.state.config c.before.before.before.args.state.domain c.before.before.before.args.site ≡ true
-inside c = rw c.before.before.before.requires.1 at (passed c.before.is-site.ensures c.if1.false)
+inside c = rw c.before.before.before.requires.1 at (passed c.before.in-range.ensures c.if1.false)
 
 local-answer-requires : tie.Need-local-answer-requires
 local-answer-requires c κs = (c.before.before.before.before.before.before.requires.0, c.before.before.before.before.before.before.requires.1)
@@ -38,4 +36,4 @@ returns-3 c =
     c.cross-answer.ensures ∙ cross_rest x.state (table_of x.word) x.target x.site x.pointer (inside c.before.before.before.before) c.before.if2.false
 
 pub answer-spec : {M : Type 1} → statement M
-answer-spec = tie.close (tie.spec is-site-requires returns local-answer-requires returns-2 cross-answer-requires returns-3)
+answer-spec = tie.close (tie.spec in-range-requires returns local-answer-requires returns-2 cross-answer-requires returns-3)
