@@ -1,5 +1,7 @@
 // The three kinds of address, and every way from a number or from one kind to another: no other file makes one from a number, but
 // for those where numbers come in from outside. A block is 8 bytes here and nowhere else in the code.
+#![tactic(auto)]
+
 ghost use Rattle.std.specs.Prelude.{◌≡◌, ◌&&◌, ◌+◌, ◌-◌, ◌*◌, ◌≤◌, ◌<◌};
 ghost use Rattle.rules.specs.Memory.{start_of, block_of, is_multiple, divided_up, blocks_for, ram_bytes};
 ghost use Rattle.rules.specs.Code.{flash_word};

@@ -1,5 +1,7 @@
 // Numbers that come in as bytes, "low byte first": sixteen bits at a place, as a number or as one of the kinds of address. The addresses
 // are made by crate `address`; this crate makes none itself. And an answer as the numbers that go out (`numbers`).
+#![tactic(auto)]
+
 ghost use Rattle.std.specs.Prelude.{◌≡◌, ◌+◌, ◌<◌, length};
 ghost use Rattle.rules.specs.Code.{flash_word};
 ghost use Rattle.rules.specs.State.{ram_byte};

@@ -1,4 +1,6 @@
 // Frames of the safe stack: pushed on the bytes used of the area that is lent, and the last one read. No other byte of RAM is in reach.
+#![tactic(auto)]
+
 ghost use Rattle.std.specs.Prelude.{◌≡◌, ◌+◌, ◌≤◌, ◌<◌, ◌%◌, ◌/◌, length, take};
 ghost use Rattle.std.proofs.lemmas.List.Edits.{sets};
 ghost use Rattle.rules.specs.Memory.{ram_bytes};

@@ -1,4 +1,6 @@
 // Whether a configuration and a state are good: sections 2 to 4, a function for each group of rules.
+#![tactic(auto)]
+
 ghost use Rattle.std.specs.Prelude.{◌≡◌, ◌&&◌};
 ghost use Rattle.rules.specs.State.{multiples, bot_below_top, map_below_heap, heap_below_safe, safe_below_top, top_in_ram, good_config, domain_good, bound_good, safepointer_good, good_state};
 

@@ -1,11 +1,13 @@
 // The script program of section 7: standard input, run by the proved library, to standard output.
+#![tactic(auto)]
+
 ghost use Rattle.std.specs.Prelude.{◌≡◌, length};
 ghost use Rattle.hmt.specs.Input.{Within};
 
 use libc::{STDERR_FILENO, STDIN_FILENO, STDOUT_FILENO};
 
 // How the reading of standard input ended.
-#[derive(Drop)]
+#[derive(Clone, Copy)]
 enum Input {
     // at its end, or with the place full: so many bytes
     Bytes(usize),

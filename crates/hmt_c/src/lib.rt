@@ -1,4 +1,6 @@
 // Document 02, Ask 1: set-up and the operations, callable from C on numbers and byte slices. The state sits in a slot of 48 bytes.
+#![tactic(auto)]
+
 ghost use Rattle.std.specs.Prelude.{◌≡◌};
 ghost use Rattle.rules.specs.Code.{flash_word};
 ghost use Rattle.rules.specs.State.{ram_byte};

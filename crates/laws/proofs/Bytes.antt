@@ -47,13 +47,13 @@ get_or-words_at bytes at (suc n) (suc i) h =
     rw e (get_or-words_at bytes (at + 2) n i (omega arith))
 
 -- the code range of a domain
-pub range_at : (bytes : List ℕ) (at n d : ℕ) → d < n → get_or (ranges_at bytes at n) d empty_range ≡ range_at bytes (at + 4 * d)
+pub get_or-ranges_at : (bytes : List ℕ) (at n d : ℕ) → d < n → get_or (ranges_at bytes at n) d empty_range ≡ range_at bytes (at + 4 * d)
 unfolding ranges_at
-range_at bytes at zero d h = absurd (omega arith)
-range_at bytes at (suc n) zero h = let e : at + 4 * 0 ≡ at = omega arith in rw e
-range_at bytes at (suc n) (suc d) h =
+get_or-ranges_at bytes at zero d h = absurd (omega arith)
+get_or-ranges_at bytes at (suc n) zero h = let e : at + 4 * 0 ≡ at = omega arith in rw e
+get_or-ranges_at bytes at (suc n) (suc d) h =
     let e : at + 4 * suc d ≡ at + 4 + 4 * d = omega arith in
-    rw e (range_at bytes (at + 4) n d (omega arith))
+    rw e (get_or-ranges_at bytes (at + 4) n d (omega arith))
 
 -- ---- what was written is read back
 

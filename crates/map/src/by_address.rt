@@ -10,7 +10,7 @@ use address::{block_of, start_of};
 use rules::{Config, Found, RamByte};
 
 // Where malloc's search ends, by the run's first address.
-#[derive(Drop)]
+#[derive(Clone, Copy)]
 pub enum Run {
     At(RamByte),
     Nowhere,

@@ -1,5 +1,7 @@
 // The map: half-byte codes, written and read by quotient and remainder. That a code is one of 16, and 15 is free, stands in this file
 // and nowhere else in the code.
+#![tactic(auto)]
+
 ghost use Rattle.std.specs.Prelude.{true, false, ◌∷◌, ◌≢◌, ◌≡◌, ℕ, ◌+◌, ◌-◌, ◌*◌, ◌/◌, ◌%◌, ◌≤◌, ◌<◌, length, get_or, replicate};
 ghost use Rattle.rules.specs.Memory.{ram_bytes, four_bits, layout_of, radix_by, radix, per_byte, map_byte, map_digit, map_bytes_for, safe_block, code_of, codes_of, set_code, set_codes, is_domain, start_code, later_code, free_code_by, free_code, owner_of, starts_segment};
 ghost use Rattle.address.specs.Places.{map_at, to_whole};

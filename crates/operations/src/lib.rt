@@ -1,5 +1,7 @@
 // What set-up and the operations do once RAM has its length and the configuration or the state is good: the rows below the first two, for a
 // return below 13. The runtime and the layer for C make those tests, each on the state as it comes to them.
+#![tactic(auto)]
+
 ghost use Rattle.std.specs.Prelude.{◌≡◌, true, ◌≤◌, ◌<◌, length};
 ghost use Rattle.rules.specs.Memory.{ram_bytes};
 ghost use Rattle.rules.specs.State.{good_config, good_state};

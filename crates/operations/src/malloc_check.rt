@@ -8,7 +8,7 @@ use address::domains::TRUSTED;
 use map::by_address::Run;
 use rules::{RamByte, Refusal, State};
 
-#[derive(Drop)]
+#[derive(Clone, Copy)]
 pub enum Place {
     At(RamByte),
     Refused(Refusal),

@@ -62,8 +62,8 @@ module _ (s : State) (ram : List ℕ) (gs : List Segment) (ks : List OpenCall) (
       let (gl, gu) = segment_block g n (ram_byte x) q in
       member_one s.config (heap_block s.config) gs i.row f g m n (block_of s.config (ram_byte x)) fl fu gl gu
 
-  owner_of : (g : Segment) → g ∈ gs → (a : RamByte) → InSegment s.config g a.0 → owner_at s.config (codes_of s.config ram) a ≡ g.owner
-  owner_of g m a q =
+  owner_of_lem : (g : Segment) → g ∈ gs → (a : RamByte) → InSegment s.config g a.0 → owner_at s.config (codes_of s.config ram) a ≡ g.owner
+  owner_of_lem g m a q =
       let c : Config = s.config in
       let k : ℕ = block_of c a in
       let (l, u) = segment_block g m a q in
@@ -102,7 +102,7 @@ module _ (h : History) (k : Always h) where
 
   pub segment_owner : (g : Segment) → g ∈ ledger h → (x : ℕ) → InSegment (config_of h) g x
       → owner_at (state_of h).config (codes_of (state_of h).config (ram_of h)) (ram_byte x) ≡ g.owner
-  segment_owner g m x q = owner_of (state_of h) (ram_of h) (ledger h) (open_calls h) k.1 g m (ram_byte x) (here g x q)
+  segment_owner g m x q = owner_of_lem (state_of h) (ram_of h) (ledger h) (open_calls h) k.1 g m (ram_byte x) (here g x q)
 
   pub segment_place : (g : Segment) → g ∈ ledger h → (x : ℕ) → InSegment (config_of h) g x
       → ((state_of h).config.heap.0 ≤ x) × (x < (state_of h).config.safe.0)

@@ -1,25 +1,26 @@
 // The types of document 01. What they mean stands in specs/, a file for each part of it.
+#![tactic(auto)]
 
 // Section 1: three numbers that are never mixed.
 // A RAM byte address: any sixteen bits. One that lies in RAM is at most 4095, an end at most 4096.
-#[derive(Drop)]
+#[derive(Clone, Copy)]
 pub struct RamByte(pub u16);
 // A 16-bit word of flash.
-#[derive(Drop)]
+#[derive(Clone, Copy)]
 pub struct FlashWord(pub u16);
 // A block of the protected range.
-#[derive(Drop)]
+#[derive(Clone, Copy)]
 pub struct Block(pub u16);
 
 // Section 3: the code of a domain, from start up to but not including end.
-#[derive(Drop)]
+#[derive(Clone, Copy)]
 pub struct Range {
     pub start: FlashWord,
     pub end: FlashWord,
 }
 
 // Sections 2 and 3.
-#[derive(Drop)]
+#[derive(Clone, Copy)]
 pub struct Config {
     pub bot: RamByte,
     pub heap: RamByte,
@@ -30,7 +31,7 @@ pub struct Config {
 }
 
 // Section 4.
-#[derive(Drop)]
+#[derive(Clone, Copy)]
 pub struct State {
     pub config: Config,
     pub domain: u8,
@@ -39,7 +40,7 @@ pub struct State {
 }
 
 // Section 5: a frame of the safe stack, as a call pushes it and a return finds it. Only a return finds damage.
-#[derive(Drop)]
+#[derive(Clone, Copy)]
 pub enum Frame {
     Local(FlashWord),
     // return site, old bound, calling domain
@@ -48,14 +49,14 @@ pub enum Frame {
 }
 
 // Section 5: where malloc's search ends.
-#[derive(Drop)]
+#[derive(Clone, Copy)]
 pub enum Found {
     At(Block),
     Nowhere,
 }
 
 // Section 6: the numbers 1 to 20, in order.
-#[derive(Drop)]
+#[derive(Clone, Copy)]
 pub enum Refusal {
     WrongSize,
     BrokenRule,
@@ -81,21 +82,21 @@ pub enum Refusal {
 }
 
 // Section 6: 0 with its value, or a refusal.
-#[derive(Drop)]
+#[derive(Clone, Copy)]
 pub enum Answer {
     Done(u16),
     Refused(Refusal),
 }
 
 // What an operation hands back beside RAM.
-#[derive(Drop)]
+#[derive(Clone, Copy)]
 pub struct Outcome {
     pub answer: Answer,
     pub state: State,
 }
 
 // Section 7: an operation of a script, with its operands.
-#[derive(Drop)]
+#[derive(Clone, Copy)]
 pub enum Operation {
     Store(RamByte, u8),
     // target, return site, stack pointer
@@ -107,7 +108,7 @@ pub enum Operation {
 }
 
 // Section 7: what stands at a place of a script.
-#[derive(Drop)]
+#[derive(Clone, Copy)]
 pub enum Read {
     // an operation, and where the next one starts
     Whole(Operation, usize),

@@ -1,4 +1,6 @@
 // Set-up and the operations of document 01. Each gives what its rule gives, refusals included.
+#![tactic(auto)]
+
 ghost use Rattle.std.specs.Prelude.{◌≡◌, true, length};
 ghost use Rattle.rules.specs.Memory.{ram_bytes};
 ghost use Rattle.rules.specs.Code.{table_words};

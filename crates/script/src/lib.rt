@@ -1,4 +1,6 @@
 // Section 7: a script, from the bytes that are read to the text that is printed.
+#![tactic(auto)]
+
 ghost use Rattle.std.specs.Prelude.{◌+◌, ◌*◌, ◌-◌, ◌≤◌, length};
 ghost use Rattle.rules.specs.Script.{most_bytes, operations_place};
 ghost use Rattle.script.specs.Text.{Wrote, line_most};

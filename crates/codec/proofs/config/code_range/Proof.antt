@@ -3,7 +3,7 @@ use mathlib.Core.Path.{sym, ◌∙◌}
 use native.Mathlib.Omega.{arith}
 use Rattle.rules.specs.Code.{domains}
 use Rattle.rules.specs.Bytes.{ranges_place}
-use Rattle.laws.proofs.Bytes.{range_at}
+use Rattle.laws.proofs.Bytes.{get_or-ranges_at}
 use borrow.Author.Rules.{rules}
 use Rattle.codec.proofs.config.code_range.Statement.{statement}
 use Rattle.codec.proofs.config.code_range.Tie as tie
@@ -22,7 +22,7 @@ range-at-requires c κs = search rules
 
 returns : tie.Need-returns
 returns c =
-    c.range_at.ensures ∙ sym (range_at c.before.before.args.bytes.now (ranges_place c.before.before.args.at) domains c.before.before.args.domain (omega arith))
+    c.range_at.ensures ∙ sym (get_or-ranges_at c.before.before.args.bytes.now (ranges_place c.before.before.args.at) domains c.before.before.args.domain (omega arith))
 
 pub code-range-spec : {M : Type 1} → statement M
 code-range-spec =
