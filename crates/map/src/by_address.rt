@@ -18,9 +18,9 @@ pub enum Run {
 
 // The code of the block that an address lies in.
 pub fn code_at(config: Config, ram: &[u8], a: RamByte) -> u8
-    requires ram_len { length ram.now ≡ ram_bytes }
-    requires bot_le_a { config.bot.0 ≤ a.0 }
-    requires a_bound { map_byte (layout_of config) (block_of config a) < ram_bytes }
+    requires whole_ram { length ram.now ≡ ram_bytes }
+    requires from_bot { config.bot.0 ≤ a.0 }
+    requires in_ram { map_byte (layout_of config) (block_of config a) < ram_bytes }
     ensures { result ≡ code_of (layout_of config) ram.now (block_of config a) }
 {
     crate::code_of(config.bot, ram, block_of(config, a))
@@ -28,9 +28,9 @@ pub fn code_at(config: Config, ram: &[u8], a: RamByte) -> u8
 
 // Its owner.
 pub fn owner_at(config: Config, ram: &[u8], a: RamByte) -> u8
-    requires ram_len { length ram.now ≡ ram_bytes }
-    requires bot_le_a { config.bot.0 ≤ a.0 }
-    requires a_bound { map_byte (layout_of config) (block_of config a) < ram_bytes }
+    requires whole_ram { length ram.now ≡ ram_bytes }
+    requires from_bot { config.bot.0 ≤ a.0 }
+    requires in_ram { map_byte (layout_of config) (block_of config a) < ram_bytes }
     ensures { result ≡ owner_of (layout_of config) (code_of (layout_of config) ram.now (block_of config a)) }
 {
     crate::owner_of(config, code_at(config, ram, a))
@@ -46,11 +46,11 @@ pub fn is_first(config: Config, a: RamByte) -> bool
 
 // How many blocks a domain's segment has that starts with the block of a heap address.
 pub fn segment_blocks(config: Config, ram: &[u8], a: RamByte, domain: u8) -> u16
-    requires ram_len { length ram.now ≡ ram_bytes }
-    requires config_value { good_config config ≡ true }
-    requires heap_le_a { config.heap.0 ≤ a.0 }
-    requires a_lt_safe { a.0 < config.safe.0 }
-    requires a_value { owner_of (layout_of config) (code_of (layout_of config) ram.now (block_of config a)) ≡ domain }
+    requires whole_ram { length ram.now ≡ ram_bytes }
+    requires is_good { good_config config ≡ true }
+    requires from_heap { config.heap.0 ≤ a.0 }
+    requires below_safe { a.0 < config.safe.0 }
+    requires owned { owner_of (layout_of config) (code_of (layout_of config) ram.now (block_of config a)) ≡ domain }
     ensures { result ≡ segment_blocks config (codes_of config ram.now) (block_of config a) }
 {
     crate::segment_blocks(config, ram, block_of(config, a), domain)
@@ -58,12 +58,12 @@ pub fn segment_blocks(config: Config, ram: &[u8], a: RamByte, domain: u8) -> u16
 
 // A run of n blocks from that of an address on: its first code, then the later one.
 pub fn set_run(config: Config, ram: &mut [u8], a: RamByte, n: u16, first: u8, later: u8)
-    requires ram_len { length ram.old ≡ ram_bytes }
-    requires bot_le_a { config.bot.0 ≤ a.0 }
-    requires n_nonzero { 0 < n }
-    requires n_bound { map_byte (layout_of config) (block_of config a + (n - 1)) < ram_bytes }
-    requires first_bound { first < radix (layout_of config) }
-    requires later_bound { later < radix (layout_of config) }
+    requires whole_ram { length ram.old ≡ ram_bytes }
+    requires from_bot { config.bot.0 ≤ a.0 }
+    requires some { 0 < n }
+    requires fits { map_byte (layout_of config) (block_of config a + (n - 1)) < ram_bytes }
+    requires first_is_code { first < radix (layout_of config) }
+    requires later_is_code { later < radix (layout_of config) }
     ensures { ram.new ≡ set_codes (layout_of config) ram.old (block_of config a) (first ∷ replicate (n - 1) later) }
 {
     crate::set_run(config.bot, ram, block_of(config, a), n, first, later);
@@ -71,10 +71,10 @@ pub fn set_run(config: Config, ram: &mut [u8], a: RamByte, n: u16, first: u8, la
 
 // n blocks from that of an address on made free.
 pub fn set_free(config: Config, ram: &mut [u8], a: RamByte, n: u16)
-    requires ram_len { length ram.old ≡ ram_bytes }
-    requires bot_le_a { config.bot.0 ≤ a.0 }
-    requires n_nonzero { 0 < n }
-    requires n_bound { map_byte (layout_of config) (block_of config a + (n - 1)) < ram_bytes }
+    requires whole_ram { length ram.old ≡ ram_bytes }
+    requires from_bot { config.bot.0 ≤ a.0 }
+    requires some { 0 < n }
+    requires fits { map_byte (layout_of config) (block_of config a + (n - 1)) < ram_bytes }
     ensures { ram.new ≡ set_codes (layout_of config) ram.old (block_of config a) (replicate n (free_code (layout_of config))) }
 {
     crate::fill(config.bot, ram, block_of(config, a), n, crate::FREE);
@@ -82,9 +82,9 @@ pub fn set_free(config: Config, ram: &mut [u8], a: RamByte, n: u16)
 
 // The lowest run of n free heap blocks.
 pub fn lowest_run(config: Config, ram: &[u8], n: u16) -> Run
-    requires ram_len { length ram.now ≡ ram_bytes }
-    requires config_value { good_config config ≡ true }
-    requires n_nonzero { 0 < n }
+    requires whole_ram { length ram.now ≡ ram_bytes }
+    requires is_good { good_config config ≡ true }
+    requires some { 0 < n }
     ensures { result ≡ run_of config (lowest_run config (codes_of config ram.now) n) }
 {
     let found = crate::lowest_run(config, ram, n);

@@ -23,9 +23,9 @@ const FREE: u8 = 15;
 
 // An even block's code is the low half of its byte, an odd one's the high half.
 fn even_code(bot: RamByte, ram: &[u8], k: Block) -> u8
-    requires ram_len { length ram.now ≡ ram_bytes }
-    requires k_bound { map_byte (map_at bot) k.0 < ram_bytes }
-    requires k_value { map_digit (map_at bot) k.0 ≡ 0 }
+    requires whole_ram { length ram.now ≡ ram_bytes }
+    requires in_ram { map_byte (map_at bot) k.0 < ram_bytes }
+    requires first_of_byte { map_digit (map_at bot) k.0 ≡ 0 }
     ensures { result ≡ code_of (map_at bot) ram.now k.0 }
 {
     let at = map_byte(bot, k);
@@ -33,9 +33,9 @@ fn even_code(bot: RamByte, ram: &[u8], k: Block) -> u8
 }
 
 fn odd_code(bot: RamByte, ram: &[u8], k: Block) -> u8
-    requires ram_len { length ram.now ≡ ram_bytes }
-    requires k_bound { map_byte (map_at bot) k.0 < ram_bytes }
-    requires k_nonzero { map_digit (map_at bot) k.0 ≢ 0 }
+    requires whole_ram { length ram.now ≡ ram_bytes }
+    requires in_ram { map_byte (map_at bot) k.0 < ram_bytes }
+    requires second_of_byte { map_digit (map_at bot) k.0 ≢ 0 }
     ensures { result ≡ code_of (map_at bot) ram.now k.0 }
 {
     let at = map_byte(bot, k);
@@ -43,8 +43,8 @@ fn odd_code(bot: RamByte, ram: &[u8], k: Block) -> u8
 }
 
 fn code_of(bot: RamByte, ram: &[u8], k: Block) -> u8
-    requires ram_len { length ram.now ≡ ram_bytes }
-    requires k_bound { map_byte (map_at bot) k.0 < ram_bytes }
+    requires whole_ram { length ram.now ≡ ram_bytes }
+    requires in_ram { map_byte (map_at bot) k.0 < ram_bytes }
     ensures { result ≡ code_of (map_at bot) ram.now k.0 }
 {
     if k.0 % PER_BYTE == 0 {
@@ -55,10 +55,10 @@ fn code_of(bot: RamByte, ram: &[u8], k: Block) -> u8
 
 // The code of a block made another; the other code of its byte stays.
 fn set_even(bot: RamByte, ram: &mut [u8], k: Block, code: u8)
-    requires ram_len { length ram.old ≡ ram_bytes }
-    requires k_bound { map_byte (map_at bot) k.0 < ram_bytes }
-    requires k_value { map_digit (map_at bot) k.0 ≡ 0 }
-    requires code_bound { code < radix (map_at bot) }
+    requires whole_ram { length ram.old ≡ ram_bytes }
+    requires in_ram { map_byte (map_at bot) k.0 < ram_bytes }
+    requires first_of_byte { map_digit (map_at bot) k.0 ≡ 0 }
+    requires is_code { code < radix (map_at bot) }
     ensures { ram.new ≡ set_code (map_at bot) ram.old k.0 code }
 {
     let at = map_byte(bot, k);
@@ -67,10 +67,10 @@ fn set_even(bot: RamByte, ram: &mut [u8], k: Block, code: u8)
 }
 
 fn set_odd(bot: RamByte, ram: &mut [u8], k: Block, code: u8)
-    requires ram_len { length ram.old ≡ ram_bytes }
-    requires k_bound { map_byte (map_at bot) k.0 < ram_bytes }
-    requires k_nonzero { map_digit (map_at bot) k.0 ≢ 0 }
-    requires code_bound { code < radix (map_at bot) }
+    requires whole_ram { length ram.old ≡ ram_bytes }
+    requires in_ram { map_byte (map_at bot) k.0 < ram_bytes }
+    requires second_of_byte { map_digit (map_at bot) k.0 ≢ 0 }
+    requires is_code { code < radix (map_at bot) }
     ensures { ram.new ≡ set_code (map_at bot) ram.old k.0 code }
 {
     let at = map_byte(bot, k);
@@ -79,9 +79,9 @@ fn set_odd(bot: RamByte, ram: &mut [u8], k: Block, code: u8)
 }
 
 fn set_code(bot: RamByte, ram: &mut [u8], k: Block, code: u8)
-    requires ram_len { length ram.old ≡ ram_bytes }
-    requires k_bound { map_byte (map_at bot) k.0 < ram_bytes }
-    requires code_bound { code < radix (map_at bot) }
+    requires whole_ram { length ram.old ≡ ram_bytes }
+    requires in_ram { map_byte (map_at bot) k.0 < ram_bytes }
+    requires is_code { code < radix (map_at bot) }
     ensures { ram.new ≡ set_code (map_at bot) ram.old k.0 code }
 {
     if k.0 % PER_BYTE == 0 {
@@ -128,9 +128,9 @@ fn both(code: u8) -> u8
 
 // n bytes of the map from one on, both codes of each the same.
 fn fill_bytes(from: RamByte, ram: &mut [u8], n: u16, code: u8)
-    requires ram_len { length ram.old ≡ ram_bytes }
-    requires n_bound { from.0 + n ≤ ram_bytes }
-    requires code_bound { code < radix (map_at from) }
+    requires whole_ram { length ram.old ≡ ram_bytes }
+    requires fits { from.0 + n ≤ ram_bytes }
+    requires is_code { code < radix (map_at from) }
     ensures { ram.new ≡ set_codes (map_at from) ram.old 0 (replicate (n * per_byte (map_at from)) code) }
 {
     let byte = both(code);
@@ -144,10 +144,10 @@ fn fill_bytes(from: RamByte, ram: &mut [u8], n: u16, code: u8)
 
 // n blocks from an even one on, all of one code: whole bytes, and a last block alone in its byte.
 fn fill_from_even(bot: RamByte, ram: &mut [u8], k: Block, n: u16, code: u8)
-    requires ram_len { length ram.old ≡ ram_bytes }
-    requires k_value { map_digit (map_at bot) k.0 ≡ 0 }
-    requires n_bound { bot.0 + map_bytes_for (map_at bot) (k.0 + n) ≤ ram_bytes }
-    requires code_bound { code < radix (map_at bot) }
+    requires whole_ram { length ram.old ≡ ram_bytes }
+    requires first_of_byte { map_digit (map_at bot) k.0 ≡ 0 }
+    requires fits { bot.0 + map_bytes_for (map_at bot) (k.0 + n) ≤ ram_bytes }
+    requires is_code { code < radix (map_at bot) }
     ensures { ram.new ≡ set_codes (map_at bot) ram.old k.0 (replicate n code) }
 {
     fill_bytes(map_byte(bot, k), ram, n / PER_BYTE, code);
@@ -159,9 +159,9 @@ fn fill_from_even(bot: RamByte, ram: &mut [u8], k: Block, n: u16, code: u8)
 
 // The blocks from k on before an even one get the code: an odd one alone.
 fn fill_to_even(bot: RamByte, ram: &mut [u8], k: Block, code: u8)
-    requires ram_len { length ram.old ≡ ram_bytes }
-    requires k_bound { map_byte (map_at bot) k.0 < ram_bytes }
-    requires code_bound { code < radix (map_at bot) }
+    requires whole_ram { length ram.old ≡ ram_bytes }
+    requires in_ram { map_byte (map_at bot) k.0 < ram_bytes }
+    requires is_code { code < radix (map_at bot) }
     ensures { ram.new ≡ set_codes (map_at bot) ram.old k.0 (replicate (to_whole (map_at bot) k.0) code) }
 {
     if to_whole(bot, k) == 0 {
@@ -172,9 +172,9 @@ fn fill_to_even(bot: RamByte, ram: &mut [u8], k: Block, code: u8)
 
 // n blocks from k on, all of one code.
 fn fill(bot: RamByte, ram: &mut [u8], k: Block, n: u16, code: u8)
-    requires ram_len { length ram.old ≡ ram_bytes }
-    requires n_bound { bot.0 + map_bytes_for (map_at bot) (k.0 + n) ≤ ram_bytes }
-    requires code_bound { code < radix (map_at bot) }
+    requires whole_ram { length ram.old ≡ ram_bytes }
+    requires fits { bot.0 + map_bytes_for (map_at bot) (k.0 + n) ≤ ram_bytes }
+    requires is_code { code < radix (map_at bot) }
     ensures { ram.new ≡ set_codes (map_at bot) ram.old k.0 (replicate n code) }
 {
     if n == 0 {
@@ -187,11 +187,11 @@ fn fill(bot: RamByte, ram: &mut [u8], k: Block, n: u16, code: u8)
 
 // A run of n blocks from k on: its first code, then the later one.
 fn set_run(bot: RamByte, ram: &mut [u8], k: Block, n: u16, first: u8, later: u8)
-    requires ram_len { length ram.old ≡ ram_bytes }
-    requires n_nonzero { 0 < n }
-    requires n_bound { map_byte (map_at bot) (k.0 + (n - 1)) < ram_bytes }
-    requires first_bound { first < radix (map_at bot) }
-    requires later_bound { later < radix (map_at bot) }
+    requires whole_ram { length ram.old ≡ ram_bytes }
+    requires some { 0 < n }
+    requires fits { map_byte (map_at bot) (k.0 + (n - 1)) < ram_bytes }
+    requires first_is_code { first < radix (map_at bot) }
+    requires later_is_code { later < radix (map_at bot) }
     ensures { ram.new ≡ set_codes (map_at bot) ram.old k.0 (first ∷ replicate (n - 1) later) }
 {
     set_code(bot, ram, k, first);
@@ -200,11 +200,11 @@ fn set_run(bot: RamByte, ram: &mut [u8], k: Block, n: u16, first: u8, later: u8)
 
 // How many bytes from one on, at most n, are as given.
 fn bytes_alike(from: RamByte, ram: &[u8], n: u16, byte: u8) -> u16
-    requires ram_len { length ram.now ≡ ram_bytes }
-    requires n_bound { from.0 + n ≤ ram_bytes }
-    ensures upper_bound { result ≤ n }
-    ensures by_index { (j : ℕ) → from.0 ≤ j → j < from.0 + result → get_or ram.now j 0 ≡ byte }
-    ensures result_nonzero { result < n → get_or ram.now (from.0 + result) 0 ≢ byte }
+    requires whole_ram { length ram.now ≡ ram_bytes }
+    requires fits { from.0 + n ≤ ram_bytes }
+    ensures at_most { result ≤ n }
+    ensures alike { (j : ℕ) → from.0 ≤ j → j < from.0 + result → get_or ram.now j 0 ≡ byte }
+    ensures ends { result < n → get_or ram.now (from.0 + result) 0 ≢ byte }
 {
     let to = from.0 + n;
     let mut at = from.0;
@@ -219,13 +219,13 @@ fn bytes_alike(from: RamByte, ram: &[u8], n: u16, byte: u8) -> u16
 
 // How many blocks from an even one on, at most n, have the code: by whole bytes, and then perhaps one more.
 fn blocks_alike(bot: RamByte, ram: &[u8], k: Block, n: u16, code: u8) -> u16
-    requires ram_len { length ram.now ≡ ram_bytes }
-    requires k_value { map_digit (map_at bot) k.0 ≡ 0 }
-    requires n_bound { bot.0 + map_bytes_for (map_at bot) (k.0 + n) ≤ ram_bytes }
-    requires code_bound { code < radix (map_at bot) }
-    ensures upper_bound { result ≤ n }
-    ensures by_index { (j : ℕ) → k.0 ≤ j → j < k.0 + result → code_of (map_at bot) ram.now j ≡ code }
-    ensures result_nonzero { result < n → code_of (map_at bot) ram.now (k.0 + result) ≢ code }
+    requires whole_ram { length ram.now ≡ ram_bytes }
+    requires first_of_byte { map_digit (map_at bot) k.0 ≡ 0 }
+    requires fits { bot.0 + map_bytes_for (map_at bot) (k.0 + n) ≤ ram_bytes }
+    requires is_code { code < radix (map_at bot) }
+    ensures at_most { result ≤ n }
+    ensures alike { (j : ℕ) → k.0 ≤ j → j < k.0 + result → code_of (map_at bot) ram.now j ≡ code }
+    ensures ends { result < n → code_of (map_at bot) ram.now (k.0 + result) ≢ code }
 {
     let byte = both(code);
     let alike = bytes_alike(map_byte(bot, k), ram, n / PER_BYTE, byte) * PER_BYTE;
@@ -240,10 +240,10 @@ fn blocks_alike(bot: RamByte, ram: &[u8], k: Block, n: u16, code: u8) -> u16
 
 // Whether the blocks from k on before an even one have the code: an odd one must, and stand before end.
 fn alike_to_even(bot: RamByte, ram: &[u8], k: Block, end: Block, code: u8) -> bool
-    requires ram_len { length ram.now ≡ ram_bytes }
-    requires k_bound { map_byte (map_at bot) k.0 < ram_bytes }
-    ensures k_nonzero { result ≡ true → to_whole (map_at bot) k.0 ≢ 0 → (k.0 ≢ end.0) × (code_of (map_at bot) ram.now k.0 ≡ code) }
-    ensures k_nonzero_2 { result ≡ false → k.0 ≢ end.0 → code_of (map_at bot) ram.now k.0 ≢ code }
+    requires whole_ram { length ram.now ≡ ram_bytes }
+    requires in_ram { map_byte (map_at bot) k.0 < ram_bytes }
+    ensures alike { result ≡ true → to_whole (map_at bot) k.0 ≢ 0 → (k.0 ≢ end.0) × (code_of (map_at bot) ram.now k.0 ≡ code) }
+    ensures ends { result ≡ false → k.0 ≢ end.0 → code_of (map_at bot) ram.now k.0 ≢ code }
 {
     if to_whole(bot, k) == 0 {
         return true;
@@ -256,10 +256,10 @@ fn alike_to_even(bot: RamByte, ram: &[u8], k: Block, end: Block, code: u8) -> bo
 
 // How many blocks a domain's segment that starts at k has: k and the heap blocks directly after it that continue the same owner.
 fn segment_blocks(config: Config, ram: &[u8], k: Block, domain: u8) -> u16
-    requires ram_len { length ram.now ≡ ram_bytes }
-    requires config_value { good_config config ≡ true }
-    requires k_bound { k.0 < safe_block config }
-    requires k_value { owner_of (layout_of config) (code_of (layout_of config) ram.now k.0) ≡ domain }
+    requires whole_ram { length ram.now ≡ ram_bytes }
+    requires is_good { good_config config ≡ true }
+    requires below_safe { k.0 < safe_block config }
+    requires owned { owner_of (layout_of config) (code_of (layout_of config) ram.now k.0) ≡ domain }
     ensures { result ≡ segment_blocks config (codes_of config ram.now) k.0 }
 {
     let end = block_of(config, config.safe);
@@ -275,8 +275,8 @@ fn segment_blocks(config: Config, ram: &[u8], k: Block, domain: u8) -> u16
 // Whether the first block of a byte is the last of n free ones, behind run others.
 fn completes(byte: u8, run: u16, n: u16) -> bool
     requires { run < n }
-    ensures run_value { result ≡ true → (run + 1 ≡ n) × (byte % radix_by four_bits ≡ free_code_by four_bits) }
-    ensures four_bits_nonzero { result ≡ false → run + 1 ≡ n → byte % radix_by four_bits ≢ free_code_by four_bits }
+    ensures last { result ≡ true → (run + 1 ≡ n) × (byte % radix_by four_bits ≡ free_code_by four_bits) }
+    ensures not_last { result ≡ false → run + 1 ≡ n → byte % radix_by four_bits ≢ free_code_by four_bits }
 {
     if run + 1 != n {
         return false;
@@ -286,9 +286,9 @@ fn completes(byte: u8, run: u16, n: u16) -> bool
 
 // How many free blocks a byte that is not all free ends with: its second, or none.
 fn free_at_end(byte: u8) -> u16
-    ensures upper_bound { result ≤ 1 }
-    ensures four_bits_value { result ≡ 1 → byte / radix_by four_bits ≡ free_code_by four_bits }
-    ensures four_bits_nonzero { result ≡ 0 → byte / radix_by four_bits ≢ free_code_by four_bits }
+    ensures at_most { result ≤ 1 }
+    ensures one { result ≡ 1 → byte / radix_by four_bits ≡ free_code_by four_bits }
+    ensures none { result ≡ 0 → byte / radix_by four_bits ≢ free_code_by four_bits }
 {
     if byte / RADIX == FREE {
         return 1;
@@ -298,11 +298,11 @@ fn free_at_end(byte: u8) -> u16
 
 // How many free blocks there are from k on before an even one: an odd one alone.
 fn free_to_even(bot: RamByte, ram: &[u8], k: Block) -> u16
-    requires ram_len { length ram.now ≡ ram_bytes }
-    requires k_bound { map_byte (map_at bot) k.0 < ram_bytes }
-    ensures upper_bound { result ≤ to_whole (map_at bot) k.0 }
-    ensures k_value { 0 < result → code_of (map_at bot) ram.now k.0 ≡ free_code (map_at bot) }
-    ensures k_nonzero { result < to_whole (map_at bot) k.0 → code_of (map_at bot) ram.now k.0 ≢ free_code (map_at bot) }
+    requires whole_ram { length ram.now ≡ ram_bytes }
+    requires in_ram { map_byte (map_at bot) k.0 < ram_bytes }
+    ensures at_most { result ≤ to_whole (map_at bot) k.0 }
+    ensures free { 0 < result → code_of (map_at bot) ram.now k.0 ≡ free_code (map_at bot) }
+    ensures not_free { result < to_whole (map_at bot) k.0 → code_of (map_at bot) ram.now k.0 ≢ free_code (map_at bot) }
 {
     if to_whole(bot, k) == 0 {
         return 0;
@@ -316,9 +316,9 @@ fn free_to_even(bot: RamByte, ram: &[u8], k: Block) -> u16
 // The lowest run of n free heap blocks, two at a look from an even one on: k is the next to be looked at, and `at` its byte. Behind one that
 // is not free the search starts anew.
 fn lowest_run(config: Config, ram: &[u8], n: u16) -> Found
-    requires ram_len { length ram.now ≡ ram_bytes }
-    requires config_value { good_config config ≡ true }
-    requires n_nonzero { 0 < n }
+    requires whole_ram { length ram.now ≡ ram_bytes }
+    requires is_good { good_config config ≡ true }
+    requires some { 0 < n }
     ensures { result ≡ lowest_run config (codes_of config ram.now) n }
 {
     let end = block_of(config, config.safe).0;
@@ -358,11 +358,11 @@ fn lowest_run(config: Config, ram: &[u8], n: u16) -> Found
 
 // The code of an area's first block, if it has one.
 fn set_first(bot: RamByte, ram: &mut [u8], k: Block, end: Block, code: u8)
-    requires ram_len { length ram.old ≡ ram_bytes }
-    requires k_bound { k.0 < end.0 → map_byte (map_at bot) k.0 < ram_bytes }
-    requires code_bound { code < radix (map_at bot) }
-    ensures ram_after { k.0 < end.0 → ram.new ≡ set_code (map_at bot) ram.old k.0 code }
-    ensures ram_unchanged { end.0 ≤ k.0 → ram.new ≡ ram.old }
+    requires whole_ram { length ram.old ≡ ram_bytes }
+    requires in_ram { k.0 < end.0 → map_byte (map_at bot) k.0 < ram_bytes }
+    requires is_code { code < radix (map_at bot) }
+    ensures some { k.0 < end.0 → ram.new ≡ set_code (map_at bot) ram.old k.0 code }
+    ensures none { end.0 ≤ k.0 → ram.new ≡ ram.old }
 {
     if end.0 <= k.0 {
         return;
@@ -373,8 +373,8 @@ fn set_first(bot: RamByte, ram: &mut [u8], k: Block, end: Block, code: u8)
 // The map as set-up writes it: every byte the trusted domain's, and over that block 0, the heap, the first block of the safe stack area and
 // the unused half of an odd number of blocks.
 pub fn set_up_map(config: Config, ram: &mut [u8])
-    requires ram_len { length ram.old ≡ ram_bytes }
-    requires config_value { good_config config ≡ true }
+    requires whole_ram { length ram.old ≡ ram_bytes }
+    requires is_good { good_config config ≡ true }
     ensures { ram.new ≡ set_up_ram (layout_of config) config ram.old }
 {
     let heap = block_of(config, config.heap);
