@@ -4,12 +4,15 @@
 Each must-fail/FOLDER/NAME.edit has lines (others, as '# ..', are passed over):
 
     crate: operations                          the crate that must refuse it
-    fact: proofs/free/Proof.antt returns       the declaration that must fail, and the file of that crate that it stands in
+    fact: fn operations::free returns          a goal of one of its functions that must then fail, by the name that `rt check` gives it; or
+    fact: proofs/CallRows.antt cross_rest      a declaration that must fail, and the file of that crate that it stands in
     file: crates/operations/src/lib.rt         holds for the old and new texts after it
     old: ..                                    text that stands there once; of several lines: each behind an `old:` of its own
     new: ..
 
-An edit that mixes types is refused before a proof is looked at. It has the compiler's words in the place of `fact:`:
+A goal has the same name whether the check finds its proof or proofs/F/Answers.antt has it. Functions that call one another have their goals
+at the cycle's name, as `fn script::text::+put_decimal GOAL`. An edit that mixes types is refused before a proof is looked at. It has the
+compiler's words in the place of `fact:`:
 
     type: expected `RamByte`, found `FlashWord`
 
@@ -17,17 +20,16 @@ An edit fails if its old text does not stand exactly once, if the crate is still
 facts of that crate that are false, the named one among them: where a proof does not fit the code's steps, or a text cannot be read, nothing
 was shown. Nor is it by an edit of a proof alone: one may stand beside an edit of code or specs, to fit it.
 
-An edit takes seconds, not the minute that a crate takes from nothing: each crate is checked once over an incremental folder, target/inc/CRATE,
-as `rt dev` does, and each edit over a copy of it. An edited crate below the one named is built anew; the crates between are taken as they
-were, and the checker checks again what the edit reaches in them. `rt ci` removes target/, so in ./test all that is taken up so was checked
-in the same run. By hand, what has changed since is checked first.
+An edit takes seconds, not the minutes that a crate takes from nothing. The crate that must refuse it is checked with all crates below it
+as source, over a copy of an incremental folder, target/must-fail, in which the crates as they stand are proved first: so the checker takes
+from there all that the edit does not reach, in the crates between too. That folder begins with what `rt check` kept in the crates' out/,
+if there is something; else the crates are proved from nothing, once.
 
---fit says only which edits do not fit the present texts, at once. --facts prints for each edit all facts at which it is refused. Two are
-tried at a time, or as many as RT_JOBS says. The last line is 'must-fail: N passed, M failed'."""
+--fit says only which edits do not fit the present texts, at once. --facts prints for each edit all facts at which it is refused. As many are
+tried at a time as there are processors, or as RT_JOBS says. The last line is 'must-fail: N passed, M failed'."""
 import functools
 import glob
 import os
-import platform
 import re
 import shutil
 import subprocess
@@ -38,8 +40,12 @@ from concurrent.futures import ThreadPoolExecutor
 
 ROOT = os.path.dirname(os.path.dirname(os.path.abspath(__file__)))
 PARTS = ("src", "specs", "proofs")
-# what the checker says where a proof does not fit the code, and not that a fact is false
+SEED = os.path.join(ROOT, "target/must-fail")
+JOBS = int(os.environ.get("RT_JOBS", 0)) or len(os.sched_getaffinity(0))
+# what the checker says where a proof does not fit the code, and not that a fact is false,
 UNFIT = re.compile(r"has no (field|`)|not in scope|cannot be named")
+# and of what only waits for another fact
+WAITS = re.compile(r"\d+ declarations? that depends? on .* (was|were) not checked\b|(in )?`[^`]+`:? `[^`]+` was not admitted|it calls .*, which (is|are) not proved")
 
 
 class Edit:
@@ -89,12 +95,18 @@ class Edit:
 
 
 def dependencies():
-    """Each crate's own dependencies, from crates.txt."""
+    """Each crate's own dependencies, and the static libraries among the crates, from crates.txt."""
+    deps, static = {}, set()
     with open(os.path.join(ROOT, "crates.txt"), encoding="utf-8") as lines:
-        return {name.strip(): rest.split() for name, colon, rest in (line.split("#")[0].partition(":") for line in lines) if colon}
+        for name, colon, rest in (line.split("#")[0].partition(":") for line in lines):
+            if colon:
+                name, *words = name.split()
+                deps[name] = rest.split()
+                static |= {name} if "staticlib" in words else set()
+    return deps, static
 
 
-DEPS = dependencies()
+DEPS, STATIC = dependencies()
 
 
 def below(crate):
@@ -107,75 +119,100 @@ def below(crate):
 
 @functools.lru_cache(1)
 def kit():
-    """The folder of the Rattle kit, and what is in it for this machine."""
-    guide = subprocess.run(["rt", "doc"], capture_output=True, text=True, check=True).stdout
-    home = os.path.dirname(os.path.dirname(guide))
-    return home, os.path.join(home, "on", platform.machine())
+    """The folder of the Rattle kit."""
+    return os.path.dirname(subprocess.run(["rt", "doc"], capture_output=True, text=True, check=True).stdout.strip())
 
 
-def rattle(verb, crate, folder, *words):
-    """Check or build a crate of a folder as rt does; the exit status, and what was printed."""
-    home, own = kit()
-    command = [f"{own}/bin/rattle", verb, "--crate-name", crate, f"crates/{crate}/src/lib.rt", "--extern", f"std={own}/rlib/std.rlib"]
-    for name in DEPS[crate]:
-        command += ["--extern", f"{name}={'target' if name in DEPS else own}/rlib/{name}.rlib"]
-    command += ["-L", "dependency=target/rlib", "-L", f"dependency={own}/rlib", "--antt-project", f"{home}/logic/antt-project.json"]
-    run = subprocess.run([*command, "--logic-built", f"{own}/logic-built", *words], cwd=folder, capture_output=True, text=True)
+def rattle(crate, folder, kept, jobs):
+    """Check a crate of a folder, with those below it as source, over what is kept; the exit status, and what was printed."""
+    command = [f"{kit()}/bin/rattle", "check", "--crate-name", crate, "src/lib.rt", "--links", f"{crate}=", "--jobs", str(jobs)]
+    crates = below(crate)
+    for name in dict.fromkeys(["core", "std", *(dep for name in crates for dep in DEPS[name] if dep not in DEPS)]):
+        command += ["--extern", f"{name}={kit()}/rlibs/{name}.rlib"]
+    for name in crates[:-1]:
+        command += ["--lib", f"{name}:{','.join(['core', 'std', *DEPS[name]])}=../{name}/src/lib.rt"]
+    command += ["--crate-type", "staticlib"] if crate in STATIC else []
+    command += ["-L", f"dependency={kit()}/rlibs", "--antt-project", f"{kit()}/rattle/logic/antt-project.json"]
+    command += ["--logic-built", f"{kit()}/logic_built", "--incremental", kept]
+    run = subprocess.run(command, cwd=os.path.join(folder, "crates", crate), stdin=subprocess.DEVNULL, capture_output=True, text=True)
     return run.returncode, run.stdout + run.stderr
 
 
-def prepare(crate):
-    """Check a crate over its incremental folder, as `rt dev` does; what is wrong with it, or nothing."""
-    os.makedirs(os.path.join(ROOT, "target/inc", crate), exist_ok=True)
-    began = time.monotonic()
-    status, text = rattle("check", crate, ROOT, "--incremental", f"target/inc/{crate}")
-    print(f"must-fail: incremental folder of {crate}{' FAILED' if status else ''} ({time.monotonic() - began:.0f} s)", flush=True)
-    return text if status else ""
+def linked(kept, to):
+    """Copy an incremental folder, what was proved by links: the checker replaces such a file and never writes into one."""
+
+    def copy(one, other):
+        try:
+            if one.endswith(".oantt"):
+                return os.link(one, other)
+        except OSError:
+            pass
+        return shutil.copy2(one, other)
+
+    shutil.copytree(kept, to, copy_function=copy, dirs_exist_ok=True)
+
+
+def prepare(crates):
+    """Prove crates over the incremental folder; those of them that are proved, each with why it is not where it isn't."""
+    if not os.path.isdir(SEED):
+        os.makedirs(SEED)
+        for name in DEPS:
+            if os.path.isdir(os.path.join(ROOT, "crates", name, "out/incremental")):
+                linked(os.path.join(ROOT, "crates", name, "out/incremental"), SEED)
+    said = {}
+    # from the top down: where one is proved, so are those below it
+    for crate in sorted(crates, key=lambda crate: (-len(below(crate)), crate)):
+        if crate in said:
+            continue
+        began = time.monotonic()
+        status, text = rattle(crate, ROOT, SEED, JOBS)
+        said.update({crate: text if status else ""} if status else dict.fromkeys(below(crate), ""))
+        print(f"must-fail: incremental folder of {crate}{' FAILED' if status else ''} ({time.monotonic() - began:.0f} s)", flush=True)
+    return said
 
 
 def check(edit, folder):
-    """Check the edited crates in a folder of their own: the exit status, and what was printed."""
-    if not edit.changed <= set(below(edit.crate)):
-        raise ValueError(f"{edit.crate} rests on no {', '.join(edit.changed - set(below(edit.crate)))}")
-    for crate in edit.changed | {edit.crate}:
+    """Check the crate that must refuse an edit, in a folder of its own: the exit status, and what was printed."""
+    crates = below(edit.crate)
+    if not edit.changed <= set(crates):
+        raise ValueError(f"{edit.crate} rests on no {', '.join(edit.changed - set(crates))}")
+    for crate in crates:
         for part in PARTS:
             if os.path.isdir(os.path.join(ROOT, "crates", crate, part)):
                 shutil.copytree(os.path.join(ROOT, "crates", crate, part), os.path.join(folder, "crates", crate, part))
     for file, text in edit.texts().items():
         with open(os.path.join(folder, file), "w", encoding="utf-8") as out:
             out.write(text)
-    os.makedirs(os.path.join(folder, "target/rlib"))
-    for crate in below(edit.crate)[:-1]:
-        if crate in edit.changed:
-            status, text = rattle("build", crate, folder, "-o", f"target/rlib/{crate}.rlib")
-            if status:
-                return status, text
-        else:
-            os.symlink(os.path.join(ROOT, "target/rlib", f"{crate}.rlib"), os.path.join(folder, "target/rlib", f"{crate}.rlib"))
-    # by links: the checker replaces a file and never writes into one
-    shutil.copytree(os.path.join(ROOT, "target/inc", edit.crate), os.path.join(folder, "target/inc"), copy_function=os.link)
-    return rattle("check", edit.crate, folder, "--incremental", "target/inc")
+    linked(SEED, os.path.join(folder, "kept"))
+    return rattle(edit.crate, folder, os.path.join(folder, "kept"), 1)
 
 
-def facts(text):
-    """The facts that are refused in what the checker printed, as 'CRATE: FILE NAME', and what else it refuses. What only waits for another
-    fact is not counted. Where a function has no proof file, the facts are those that `search` does not close."""
+def named(place, crate, name):
+    """A refused declaration of a file, as a fact. One of a function's own proof files is a goal of the function."""
+    owner, path = re.fullmatch(r"(?:\.\./(\w+)/|\./)?(.*)", place).groups()
+    goal = re.fullmatch(r"proofs/(.+)/(?:Answers|Invariants|Proof)\.antt", path)
+    owner = owner or crate
+    return f"{owner}: fn {owner}::{goal[1].replace('/', '::')} {name}" if goal else f"{owner}: {path} {name}"
+
+
+def facts(text, crate):
+    """The facts that are refused in what the checker printed of a crate, as 'CRATE: FACT', and what else it refuses. What only waits for
+    another fact is not counted."""
     found, other = [], []
     for place, what in re.findall(r"^(\S+?):\d+:\d+: error(?:\[[\w-]+\])?: (.*)$", text, re.M):
-        named = re.match(r"(?:in )?`([^`]+)`:? ?(.*)$", what)
-        if named and re.match(r"`[^`]+` was not admitted", named.group(2)):
+        if WAITS.match(what):
             continue
-        if named and not UNFIT.search(named.group(2)):
-            found.append(f"{place} {named.group(1)}")
+        name = re.match(r"(?:in )?`([^`]+)`:? ?(.*)$", what)
+        if name and not UNFIT.search(name[2]):
+            found.append(named(place, crate, name[1]))
         else:
             other.append(f"{place}: {what[:200]}")
-    for function, place, why in re.findall(r"^fn (\S+): no proof: expected `[^`]+` in (\S+?);? (.*)$", text, re.M):
-        if not re.match("it calls .*, which (is|are) not proved", why):
-            names = re.findall(r"`([^`]+)`", why.partition("`search` does not close ")[2])
-            found += [f"{place} {name}" for name in names]
+    for function, why in re.findall(r"^fn (\S+): no proof: (.*)$", text, re.M):
+        if not WAITS.match(why):
+            names = re.findall(r"`([^`]+)`", why.partition("`search` did not prove ")[2])
+            found += [f"{function.partition('::')[0]}: fn {function} {name}" for name in names]
             other += [] if names else [f"{function}: no proof, {why[:200]}"]
-    # a module of a crate between stands in the library that rt wrote of it
-    return list(dict.fromkeys(re.sub(r"^\S*?(?:crates|rlib)/(\w+)(?:\.rlib/lang/antt)?/", r"\1: ", fact) for fact in found)), other
+    return list(dict.fromkeys(found)), other
 
 
 def judge(edit, status, text):
@@ -183,10 +220,10 @@ def judge(edit, status, text):
     if status == 0:
         raise ValueError(f"NOT REFUSED: {edit.crate} is still proved")
     if edit.types:
-        if not re.search(rf"^crates/{edit.crate}/src/\S+?:\d+:\d+: error\[mismatched-types\]: {re.escape(edit.types)}$", text, re.M):
+        if not re.search(rf"^src/\S+?:\d+:\d+: error\[mismatched-types\]: {re.escape(edit.types)}$", text, re.M):
             raise ValueError(f"not refused by its types: {text[-300:]}")
         return f"by its types: {edit.types}"
-    found, other = facts(text)
+    found, other = facts(text, edit.crate)
     if status != 1 or "logic=not-proved" not in text:
         raise ValueError(f"it did not reach the prover (exit {status}): {' | '.join(other) or text[-300:]}")
     listed = "; ".join(found) or "no fact"
@@ -206,17 +243,19 @@ def fits(path):
     return True
 
 
-def tried(path, show):
+def tried(path, show, base):
     began, text = time.monotonic(), ""
     name = os.path.relpath(os.path.abspath(path), os.path.join(ROOT, "must-fail"))[: -len(".edit")]
+    edit = Edit(path)
     try:
-        edit = Edit(path)
-        with tempfile.TemporaryDirectory(dir=os.path.join(ROOT, "target")) as folder:
+        if base[edit.crate]:
+            raise ValueError(f"{edit.crate} is not proved as it stands")
+        with tempfile.TemporaryDirectory(prefix="must-fail-") as folder:
             status, text = check(edit, folder)
         why, good = f"refused, as it must be, by {edit.crate} {judge(edit, status, text)}", True
     except (ValueError, OSError) as wrong:
         why, good = f"FAILED: {wrong}", False
-    listed = "".join(f"\n    {fact}" for fact in facts(text)[0]) if show else ""
+    listed = "".join(f"\n    {fact}" for fact in facts(text, edit.crate)[0]) if show else ""
     print(f"must-fail {name}: {why} ({time.monotonic() - began:.0f} s){listed}", flush=True)
     return good
 
@@ -243,17 +282,14 @@ def main():
             raise ValueError(f"crates.txt has no {', '.join(set(refusing.values()) - set(DEPS))}")
     except (ValueError, OSError) as wrong:
         return failed(str(wrong))
+    base = prepare(set(refusing.values()))
+    for crate, text in base.items():
+        if text:
+            print(f"must-fail: {crate} is not proved as it stands: {text[-1500:]}")
     # those that take longest first
-    crates = sorted(set(refusing.values()), key=lambda crate: (-len(below(crate)), crate))
-    paths.sort(key=lambda path: crates.index(refusing[path]))
-    base = subprocess.run(["rt", "check", *crates], cwd=ROOT, capture_output=True, text=True)
-    if base.returncode:
-        return failed(base.stdout + base.stderr)
-    with ThreadPoolExecutor(int(os.environ.get("RT_JOBS", 2))) as pool:
-        wrong = "".join(pool.map(prepare, crates))
-        if wrong:
-            return failed(wrong)
-        good = list(pool.map(lambda path: tried(path, show), paths))
+    paths.sort(key=lambda path: (-len(below(refusing[path])), refusing[path]))
+    with ThreadPoolExecutor(JOBS) as pool:
+        good = list(pool.map(lambda path: tried(path, show, base), paths))
     print(f"must-fail: from start to end ({time.monotonic() - began:.0f} s)")
     print(f"must-fail: {sum(good)} passed, {len(good) - sum(good)} failed")
     return 0 if all(good) else 1
