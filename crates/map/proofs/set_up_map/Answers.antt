@@ -1,5 +1,5 @@
 -- `map::set_up_map` meets its contract.
-use Rattle.std.proofs.Common.{arith}
+use Rattle.std.proofs.Common.{rules, arith}
 use Rattle.rules.specs.Memory.{radix, blocks, heap_block, safe_block, map_bytes, map_digit, per_byte, free_code, trusted}
 use Rattle.laws.proofs.Codes.{domain_at, trusted_domain, start_code_lt, later_code_lt}
 use Rattle.laws.proofs.Good.{good_config-facts, heap_block≤safe_block, safe_block≤blocks}
@@ -81,4 +81,4 @@ returns c =
     (rw (c.block_of-heap.ensures, c.block_of-safe.ensures) at c.fill.ensures)
     first.some first.none
     (rw (c.to_whole.ensures, c.block_of-end.ensures) at c.fill-2.ensures)
-    ? (λ i. (c.type_inv.ram i).fits)
+    (λ i. search rules) (λ i. (c.type_inv.ram i).fits)
