@@ -33,7 +33,7 @@ set_even-requires-clause-in_ram c = rw c.further.ensures (omega arith)
 
 pub set_even-requires-clause-first_of_byte : goal.set_even-requires-clause-first_of_byte
 unfolding map_digit per_byte
-set_even-requires-clause-first_of_byte c = rw c.further.ensures (omega (arith, c.requires.first_of_byte, c.if-n-eq0.false))
+set_even-requires-clause-first_of_byte c = rw c.further.ensures (omega arith)
 
 pub returns : goal.returns
 unfolding per_byte

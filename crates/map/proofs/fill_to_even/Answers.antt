@@ -10,10 +10,10 @@ returns-then-to_whole-eq0 c = rw (sym c.to_whole.ensures ∙ c.if-to_whole-eq0.t
 
 pub set_odd-requires-clause-second_of_byte : goal.set_odd-requires-clause-second_of_byte
 unfolding to_whole map_digit per_byte
-set_odd-requires-clause-second_of_byte c = λ e. c.if-to_whole-eq0.false (omega (arith, e, c.to_whole.ensures))
+set_odd-requires-clause-second_of_byte c = omega arith
 
 pub returns : goal.returns
 unfolding to_whole per_byte set_codes
 returns c =
-    let one : (2 - c.args.k.0 % 2) % 2 ≡ 1 = omega (arith, c.if-to_whole-eq0.false, c.to_whole.ensures) in
+    let one : (2 - c.args.k.0 % 2) % 2 ≡ 1 = omega arith in
     rw one c.set_odd.ensures
