@@ -1,5 +1,5 @@
--- `map::fill_bytes` meets its contract.
-use Rattle.std.proofs.Common.{◌≡◌, ◌-◌, ◌*◌, ◌≤◌, length, replicate}
+-- What the loop of `map::fill_bytes` keeps, and its measure.
+use Rattle.std.proofs.Common.{◌≡◌, ◌-◌, ◌*◌, ◌≤◌, replicate}
 use Rattle.rules.specs.Memory.{per_byte, set_codes}
 use Rattle.rules.specs.State.{ram_byte}
 use Rattle.address.specs.Places.{map_at}
@@ -13,7 +13,7 @@ invariant-loop-at l =
       within : l.at ≤ l.end;
       bytes : Bytes l.ram;
       rest : set_codes (map_at l.fn.from) l.fn.ram 0 (replicate (l.fn.n * per_byte (map_at l.fn.from)) l.code)
-          ≡ set_codes (map_at (ram_byte l.at)) l.ram 0 (replicate ((l.end - l.at) * per_byte (map_at (ram_byte l.at))) l.code)
+          ≡ set_codes (map_at (ram_byte l.at)) l.ram 0 (replicate ((l.end - l.at) * per_byte (map_at (ram_byte l.at))) l.code);
     }
 
 abbrev pub decreases-loop-at : goal.decreases-loop-at
