@@ -1,7 +1,7 @@
 -- Demand 1: every answer's number is one of document 01's for what was asked, and a refusal alters nothing.
 -- Assumes nothing.
 use Prim.Native.Nat.{ℕ}
-use mathlib.Core.Path.{◌≡◌, refl}
+use mathlib.Core.Path.{◌≡◌, refl, sym, subst}
 use mathlib.Core.Logic.{inl, inr, ◌≢◌}
 use mathlib.Core.Bool.{Bool, true, false, cond, not, false≢true, ◌&&◌, ◌||◌}
 use mathlib.Core.List.{List, [], ◌∷◌}
@@ -93,7 +93,7 @@ demand_1 =
       set_up_number = λ c ram.
           rw (give_answer (set_up_answer c ram) zeros ram (fresh c) (set_up_ram (layout_of c) c ram))
           (rows_number set_up_numbers (set_up_tests c ram) 0 refl (inl refl));
-      number = λ s ram l op. rw (answer_by_lem s ram l op) (answer_number s ram l op);
+      number = λ s ram l op. subst (λ (a : Answer). number_of a ∈ numbers_of op) (sym (answer_by_lem s ram l op)) (answer_number s ram l op);
       set_up_refused = λ c ram. unaltered (set_up_answer c ram) zeros ram (fresh c) (set_up_ram (layout_of c) c ram);
       refused = λ s ram l op.
           unaltered (answer_by in_use s ram l op) s ram (state_after s (seen_by in_use s ram) op) (ram_after (layout_of s.config) s ram op);
