@@ -40,14 +40,14 @@ block_of-first-requires c = bot≤heap _ c.requires.is_good
 
 pub further-even-requires : goal.further-even-requires
 unfolding to_whole per_byte
-further-even-requires c = omega (arith, c.to_whole.ensures, heap_is _ c.block_of-first.ensures, heap≤end _ c.requires.is_good, safe_block≤ram _ c.requires.is_good)
+further-even-requires c = omega (arith, heap_is _ c.block_of-first.ensures, heap≤end _ c.requires.is_good, safe_block≤ram _ c.requires.is_good)
 
 pub free_to_even-run-requires-clause-in_ram : goal.free_to_even-run-requires-clause-in_ram
 free_to_even-run-requires-clause-in_ram c = rw (heap_is _ c.block_of-first.ensures) (code<ram _ c.requires.is_good _ (heap≤end _ c.requires.is_good))
 
 pub map_byte-at-requires : goal.map_byte-at-requires
 unfolding to_whole map_byte per_byte
-map_byte-at-requires c = rw c.further-even.ensures (omega (arith, c.to_whole.ensures, code<ram _ c.requires.is_good _ (heap≤end _ c.requires.is_good), heap_is _ c.block_of-first.ensures))
+map_byte-at-requires c = rw c.further-even.ensures (omega (arith, code<ram _ c.requires.is_good _ (heap≤end _ c.requires.is_good), heap_is _ c.block_of-first.ensures))
 
 pub search-init : goal.search-init
 unfolding to_whole per_byte

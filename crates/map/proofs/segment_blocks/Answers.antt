@@ -1,9 +1,9 @@
 -- `map::segment_blocks` meets its contract.
-use Rattle.std.proofs.Common.{true, ◌≢◌, ◌≡◌, ℕ, ◌+◌, ◌-◌, ◌%◌, ◌≤◌, List, arith, ap, add-zero}
+use Rattle.std.proofs.Common.{true, ◌≢◌, ◌≡◌, ℕ, ◌+◌, ◌-◌, ◌≤◌, List, arith, ap, add-zero}
 use Rattle.rules.specs.declared.Block.{Block}
 use Rattle.rules.specs.declared.Config.{Config}
 use Rattle.rules.specs.declared.RamByte.{RamByte}
-use Rattle.rules.specs.Memory.{layout_of, is_domain, per_byte, map_digit, block_of, safe_block, code_of, later_code, owner_of}
+use Rattle.rules.specs.Memory.{layout_of, is_domain, per_byte, map_digit, block_of, safe_block, code_of, owner_of}
 use Rattle.rules.specs.Malloc.{block}
 use Rattle.address.specs.Places.{map_at, to_whole}
 use Rattle.laws.proofs.Codes.{domain_at, later_code_lt, owner_of-domain}
