@@ -1,5 +1,5 @@
 -- `operations::call_with` meets its contract.
-use Rattle.std.proofs.Common.{refl, sym, ◌∙◌, arith}
+use Rattle.std.proofs.Common.{refl, sym, arith}
 use Rattle.rules.specs.declared.Frame.TheVariants.{Local, Cross}
 use Rattle.rules.specs.declared.Operation.TheVariants.{Call}
 use Rattle.rules.specs.Operations.{lending}
@@ -7,7 +7,7 @@ use Rattle.operations.specs.CallRows.{table_of}
 use Rattle.operations.proofs.Gives.{refused}
 use Rattle.operations.proofs.CallRows.{call_done, table_of-lent}
 use Rattle.operations.proofs.SafeStack.{area, room}
-use Rattle.operations.proofs.Calls.{put_frame, gives_local, gives_cross, local_fits, cross_fits, word_within}
+use Rattle.operations.proofs.Calls.{put_frame, gives_local, gives_cross, local_fits, cross_fits}
 use Rattle.operations.proofs.call_with.Goals as goal
 
 pub overflow_sub-used : goal.overflow_sub-used
