@@ -35,7 +35,7 @@ unfolding set_codes set_code radix
 places_same b b' ram k k' [] e f = refl
 places_same b b' ram k k' (v ∷ vs) e f =
     let (e', f') = place_next b b' k k' e f in
-    rw (e, f) (places_same b b' _ (suc k) (suc k') vs e' f')
+    rw (e, f) (places_same b b' (set_code (map_at b') ram k' v) (suc k) (suc k') vs e' f')
 
 pub from_even : (b bot : RamByte) (ram : List ℕ) (k : ℕ) (vs : List ℕ) → b.0 ≡ map_byte (map_at bot) k → map_digit (map_at bot) k ≡ 0
     → set_codes (map_at b) ram 0 vs ≡ set_codes (map_at bot) ram k vs

@@ -1,0 +1,12 @@
+-- `map::later_code` meets its contract.
+use Rattle.std.proofs.Common.{refl, arith}
+use Rattle.rules.specs.Memory.{later_code}
+use Rattle.laws.proofs.Codes.{domain_le}
+use Rattle.map.proofs.later_code.Goals as goal
+
+pub overflow_mul-result : goal.overflow_mul-result
+overflow_mul-result c = omega (arith, domain_le _ _ c.requires)
+
+pub returns : goal.returns
+unfolding later_code
+returns c = refl
