@@ -9,6 +9,7 @@ Each must-fail/FOLDER/NAME.edit has lines (others, as '# ..', are passed over):
     file: crates/operations/src/lib.rt         holds for the old and new texts after it
     old: ..                                    text that stands there once; of several lines: each behind an `old:` of its own
     new: ..
+    name: used-lt-4 used-le-4                  of a proof file: in each name there the part used-lt-4 becomes used-le-4
 
 A goal has the same name whether the check finds its proof or proofs/F/Answers.antt has it. Functions that call one another have their goals
 at the cycle's name, as `fn script::text::+put_decimal GOAL`. An edit that mixes types is refused before a proof is looked at. It has the
@@ -18,7 +19,8 @@ compiler's words in the place of `fact:`:
 
 An edit fails if its old text does not stand exactly once, if the crate is still proved, and if it is refused for any other reason than
 facts of that crate that are false, the named one among them: where a proof does not fit the code's steps, or a text cannot be read, nothing
-was shown. Nor is it by an edit of a proof alone: one may stand beside an edit of code or specs, to fit it.
+was shown. Nor is it by an edit of a proof alone: one may stand beside an edit of code or specs, to fit it. So it must where a proof cites a
+name that the check made of the code that the edit changes, as it makes returns-then-used-lt-4 of `if used < 4 { return`.
 
 An edit takes seconds, not the minutes that a crate takes from nothing. The crate that must refuse it is checked with all crates below it
 as source, over a copy of an incremental folder, target/must-fail, in which the crates as they stand are proved first: so the checker takes
@@ -70,10 +72,12 @@ class Edit:
                     self.pairs.append({"file": file, "old": rest, "new": None})
                 elif key == "new" and self.pairs:
                     self.pairs[-1]["new"] = rest
+                elif key == "name" and len(rest.split()) == 2:
+                    self.pairs.append(dict(zip(("file", "name", "new"), [file, *rest.split()])))
                 last = key if key in ("old", "new") else None
         if not self.crate or bool(self.fact) == bool(self.types) or not self.pairs:
             raise ValueError(f"{path} lacks a crate, a fact or a type, or a text to replace")
-        if not all(pair["file"] and pair["old"] and pair["new"] is not None for pair in self.pairs):
+        if not all(pair["file"] and pair.get("old", pair.get("name")) and pair["new"] is not None for pair in self.pairs):
             raise ValueError(f"{path}: each old text needs a file above it and a new text below it")
         if not any(re.match(r"crates/\w+/(src|specs)/", pair["file"]) for pair in self.pairs):
             raise ValueError(f"{path} changes neither code nor specs")
@@ -82,15 +86,17 @@ class Edit:
     def texts(self):
         """Each file that the edit changes, with its new text."""
         texts = {}
-        for file, old, new in (pair.values() for pair in self.pairs):
+        for pair in self.pairs:
+            file, new = pair["file"], pair["new"]
             if file not in texts:
                 if not os.path.isfile(os.path.join(ROOT, file)):
                     raise ValueError(f"it does not fit: there is no {file}")
                 with open(os.path.join(ROOT, file), encoding="utf-8") as source:
                     texts[file] = source.read()
-            if texts[file].count(old) != 1:
-                raise ValueError(f"it does not fit: {file} has {texts[file].count(old)} times: {old}")
-            texts[file] = texts[file].replace(old, new)
+            old = re.escape(pair["old"]) if "old" in pair else rf"(?<!\w){re.escape(pair['name'])}(?!\w)"
+            texts[file], times = re.subn(old, lambda match: new, texts[file])
+            if times != 1 if "old" in pair else times == 0:
+                raise ValueError(f"it does not fit: {file} has {times} times: {pair.get('old', pair.get('name'))}")
         return texts
 
 
@@ -195,9 +201,20 @@ def named(place, crate, name):
     return f"{owner}: fn {owner}::{goal[1].replace('/', '::')} {name}" if goal else f"{owner}: {path} {name}"
 
 
-def facts(text, crate):
-    """The facts that are refused in what the checker printed of a crate, as 'CRATE: FACT', and what else it refuses. What only waits for
-    another fact is not counted."""
+def function_at(place, line, column, crate, folder):
+    """The function that a place in a crate's code belongs to."""
+    owner, path = re.fullmatch(r"(?:\.\./(\w+)/|\./)?src/(.*)\.rt", place).groups()
+    owner = owner or crate
+    with open(os.path.join(folder, "crates", owner, "src", f"{path}.rt"), encoding="utf-8") as source:
+        text = source.read()
+    at = sum(map(len, text.splitlines(True)[: line - 1])) + column - 1
+    heads = [head for head in re.finditer(r"(?:#\[[^\n]*\]\s*)*(?:pub(?:\([^)]*\))? )?(?:extern \"C\" )?\bfn (\w+)", text) if head.start() <= at]
+    return "::".join([owner, *(path.split("/") if path != "lib" else []), heads[-1][1]])
+
+
+def facts(text, crate, folder):
+    """The facts that are refused in what the checker printed of a crate in a folder, as 'CRATE: FACT', and what else it refuses. What only
+    waits for another fact is not counted."""
     found, other = [], []
     for place, what in re.findall(r"^(\S+?):\d+:\d+: error(?:\[[\w-]+\])?: (.*)$", text, re.M):
         if WAITS.match(what):
@@ -207,6 +224,9 @@ def facts(text, crate):
             found.append(named(place, crate, name[1]))
         else:
             other.append(f"{place}: {what[:200]}")
+    for place, line, column, goal in re.findall(r"^note: (\S+?):(\d+):(\d+): it is not proved that .* \(`([^`]+)`\)", text, re.M):
+        function = function_at(place, int(line), int(column), crate, folder)
+        found.append(f"{function.partition('::')[0]}: fn {function} {goal}")
     for function, why in re.findall(r"^fn (\S+): no proof: (.*)$", text, re.M):
         if not WAITS.match(why):
             names = re.findall(r"`([^`]+)`", why.partition("`search` did not prove ")[2])
@@ -215,7 +235,7 @@ def facts(text, crate):
     return list(dict.fromkeys(found)), other
 
 
-def judge(edit, status, text):
+def judge(edit, status, text, folder):
     """Why the edit is refused as it must be, or raise ValueError with what is wrong."""
     if status == 0:
         raise ValueError(f"NOT REFUSED: {edit.crate} is still proved")
@@ -223,7 +243,7 @@ def judge(edit, status, text):
         if not re.search(rf"^src/\S+?:\d+:\d+: error\[mismatched-types\]: {re.escape(edit.types)}$", text, re.M):
             raise ValueError(f"not refused by its types: {text[-300:]}")
         return f"by its types: {edit.types}"
-    found, other = facts(text, edit.crate)
+    found, other = facts(text, edit.crate, folder)
     if status != 1 or "logic=not-proved" not in text:
         raise ValueError(f"it did not reach the prover (exit {status}): {' | '.join(other) or text[-300:]}")
     listed = "; ".join(found) or "no fact"
@@ -244,7 +264,7 @@ def fits(path):
 
 
 def tried(path, show, base):
-    began, text = time.monotonic(), ""
+    began, listed = time.monotonic(), ""
     name = os.path.relpath(os.path.abspath(path), os.path.join(ROOT, "must-fail"))[: -len(".edit")]
     edit = Edit(path)
     try:
@@ -252,10 +272,10 @@ def tried(path, show, base):
             raise ValueError(f"{edit.crate} is not proved as it stands")
         with tempfile.TemporaryDirectory(prefix="must-fail-") as folder:
             status, text = check(edit, folder)
-        why, good = f"refused, as it must be, by {edit.crate} {judge(edit, status, text)}", True
+            listed = "".join(f"\n    {fact}" for fact in facts(text, edit.crate, folder)[0]) if show else ""
+            why, good = f"refused, as it must be, by {edit.crate} {judge(edit, status, text, folder)}", True
     except (ValueError, OSError) as wrong:
         why, good = f"FAILED: {wrong}", False
-    listed = "".join(f"\n    {fact}" for fact in facts(text, edit.crate)[0]) if show else ""
     print(f"must-fail {name}: {why} ({time.monotonic() - began:.0f} s){listed}", flush=True)
     return good
 

@@ -647,20 +647,23 @@ pub fn put(n: u16, out: &mut [u8]) -> u16
 class MustFail(unittest.TestCase):
     """How tools/must_fail.py judges an edit."""
 
-    ONE = "crates/one/proofs/eight/Proof.antt"
-    # What the checker prints, and what is then said of an edit with `fact: proofs/eight/Proof.antt returns`: nothing if it is refused as it must be.
+    ONE = "./proofs/eight/Answers.antt"
+    # What the checker prints, and what is then said of an edit with `fact: fn one::eight returns`: nothing if it is refused as it must be.
     PRINTED = {
-        f"{ONE}:3:5: error: `returns`: the two types differ\n{ONE}:9:1: error: `eight-spec`: `returns` was not admitted (it was rejected)": "",
-        f"fn one::eight: no proof: expected `eight-spec` in /there/{ONE}; `search` does not close `returns`": "",
-        f"{ONE}:3:5: error: `returns-2`: the two types differ": "refused at one: proofs/eight/Proof.antt returns-2, and not at",
-        f"{ONE.replace('eight', 'nine')}:3:5: error: `returns`: the two types differ": "refused at one: proofs/nine/Proof.antt returns, and not at",
-        f"{ONE.replace('one', 'two')}:3:5: error: `returns`: the two types differ": "refused at two: proofs/eight/Proof.antt returns, and not at",
-        f"{ONE}:3:5: error: `returns`: the two types differ\n{ONE.replace('one', 'two')}:3:5: error: `law`: the two types differ": "in no other crate",
-        "target/rlib/two.rlib/lang/antt/proofs/Law.antt:3:5: error: `law`: the two types differ": "refused at two: proofs/Law.antt law, and not at",
+        f"{ONE}:3:5: error: `returns`: the two types differ\n{ONE}:9:1: error: 1 declaration that depends on `returns`, which was rejected, was not checked: nine": "",
+        "fn one::eight: no proof: expected answers in ./proofs/eight/Answers.antt; `search` did not prove `swap-requires`, `returns`": "",
+        "note: src/lib.rt:8:5: it is not proved that what the function ensures holds when it returns (`returns`); `search` gave up at one of its limits": "",
+        "note: src/lib.rt:12:5: it is not proved that what the function ensures holds when it returns (`returns`)": "refused at one: fn one::nine returns, and not at",
+        f"{ONE}:3:5: error: `returns-then-b`: the two types differ": "refused at one: fn one::eight returns-then-b, and not at",
+        f"{ONE.replace('eight', 'at/nine')}:3:5: error: `returns`: the two types differ": "refused at one: fn one::at::nine returns, and not at",
+        f"{ONE.replace('eight/', '')}:3:5: error: `returns`: the two types differ": "refused at one: proofs/Answers.antt returns, and not at",
+        f".{ONE.replace('/proofs', '/two/proofs')}:3:5: error: `returns`: the two types differ": "refused at two: fn two::eight returns, and not at",
+        f"{ONE}:3:5: error: `returns`: the two types differ\n../two/proofs/Law.antt:3:5: error: `law`: the two types differ": "in no other crate",
         f"{ONE}:9:1: error: `returns`: `other` was not admitted (it was rejected)": "refused at no fact",
-        f"{ONE}:3:5: error: `returns`: `if2` has no field `taken`": "for another reason than a fact",
+        f"{ONE}:3:5: error: `returns`: record `State` has no field `if-a-eq0`": "for another reason than a fact",
         f"{ONE}:3:5: error: `returns`: the two types differ\n{ONE}:4:5: error: expected a term": "for another reason than a fact",
-        f"{ONE}:3:5: error: `returns`: the two types differ\nfn one::nine: no proof: expected `nine-spec` in there; it has a loop": "for another reason",
+        f"{ONE}:3:5: error: `returns`: the two types differ\nfn one::nine: no proof: it calls `one::eight`, which is not proved": "",
+        f"{ONE}:3:5: error: `returns`: the two types differ\nfn one::nine: no proof: expected invariants in there; it has a loop": "for another reason",
     }
 
     def edit(self, folder, name, words, old, new):
@@ -671,26 +674,45 @@ class MustFail(unittest.TestCase):
 
     def test_what_the_checker_prints(self):
         with tempfile.TemporaryDirectory() as folder:
-            edit = must_fail.Edit(self.edit(folder, "a", "fact: proofs/eight/Proof.antt returns", "8", "7"))
-            for words, file in (("fact: a b", "proofs/a/Proof.antt"), ("", "src/lib.rt"), ("fact: a b\ntype: c", "src/lib.rt")):
+            edit = must_fail.Edit(self.edit(folder, "a", "fact: fn one::eight returns", "8", "7"))
+            for words, file in (("fact: a b", "proofs/a/Answers.antt"), ("", "src/lib.rt"), ("fact: a b\ntype: c", "src/lib.rt")):
                 path = self.edit(folder, "b", words, "8", "7")
                 Path(path).write_text(Path(path).read_text(encoding="utf-8").replace("src/lib.rt", file), encoding="utf-8")
                 self.assertRaises(ValueError, must_fail.Edit, path)
-        for text, why in self.PRINTED.items():
-            with self.subTest(text=text):
-                if why:
-                    self.assertRaisesRegex(ValueError, why, must_fail.judge, edit, 1, text + "\nlogic=not-proved\n")
-                else:
-                    self.assertEqual(must_fail.judge(edit, 1, text + "\nlogic=not-proved\n"), "at proofs/eight/Proof.antt returns")
-        for status, text, why in ((0, "logic=proved", "NOT REFUSED"), (1, "a.rt:1:2: error: expected `;`", "did not reach"), (3, "no verdict", "did not reach")):
-            self.assertRaisesRegex(ValueError, why, must_fail.judge, edit, status, text)
+            Path(folder, "crates/one/src").mkdir(parents=True)
+            Path(folder, "crates/one/src/lib.rt").write_text(EIGHT + "fn nine() {\n    9\n}\n", encoding="utf-8")
+            for text, why in self.PRINTED.items():
+                with self.subTest(text=text):
+                    if why:
+                        self.assertRaisesRegex(ValueError, why, must_fail.judge, edit, 1, text + "\nlogic=not-proved\n", folder)
+                    else:
+                        self.assertEqual(must_fail.judge(edit, 1, text + "\nlogic=not-proved\n", folder), "at fn one::eight returns")
+            for status, text, why in ((0, "logic=proved", "NOT REFUSED"), (1, "a.rt:1:2: error: expected `;`", "did not reach"), (3, "no verdict", "did not reach")):
+                self.assertRaisesRegex(ValueError, why, must_fail.judge, edit, status, text, folder)
+
+    def test_names_that_a_proof_cites(self):
+        with tempfile.TemporaryDirectory() as folder:
+            edit = must_fail.Edit(self.edit(folder, "a", "fact: fn one::eight returns", "8", "7\nname: a-eq0 a-eq1"))
+            edit.pairs = edit.pairs[1:]
+            Path(folder, "crates/one/src").mkdir(parents=True)
+            source = Path(folder, "crates/one/src/lib.rt")
+            root, must_fail.ROOT = must_fail.ROOT, folder
+            try:
+                for text, new in (("if-a-eq0 c.then-a-eq0.x aa-eq0 a-eq01", "if-a-eq1 c.then-a-eq1.x aa-eq0 a-eq01"), ("aa-eq0", None)):
+                    source.write_text(text, encoding="utf-8")
+                    if new:
+                        self.assertEqual(edit.texts(), {"crates/one/src/lib.rt": new})
+                    else:
+                        self.assertRaisesRegex(ValueError, "0 times: a-eq0", edit.texts)
+            finally:
+                must_fail.ROOT = root
 
     def test_edits_of_a_small_crate(self):
         with tempfile.TemporaryDirectory() as folder:
             for place, text in (("crates.txt", "one:\n"), ("crates/one/src/lib.rt", EIGHT), ("tools/must_fail.py", Path(must_fail.__file__).read_text(encoding="utf-8"))):
                 Path(folder, place).parent.mkdir(parents=True, exist_ok=True)
                 Path(folder, place).write_text(text, encoding="utf-8")
-            fact = "fact: proofs/eight/Proof.antt returns"
+            fact = "fact: fn one::eight returns"
             self.edit(folder, "refused", fact, "    8", "    7")
             self.edit(folder, "accepted", fact, "a number", "a word")
             self.edit(folder, "unfit", fact, "    9", "    7")
@@ -699,7 +721,7 @@ class MustFail(unittest.TestCase):
             unknown = subprocess.run([sys.executable, f"{folder}/tools/must_fail.py", "--fits"], capture_output=True, text=True)
             self.assertEqual((unknown.returncode, unknown.stdout.splitlines()[0][:12]), (2, "must_fail.py"))
             run = subprocess.run([sys.executable, f"{folder}/tools/must_fail.py"], capture_output=True, text=True)
-        for line in ("refused: refused, as it must be, by one at proofs/eight/Proof.antt returns", "accepted: FAILED: NOT REFUSED: one is still proved",
+        for line in ("refused: refused, as it must be, by one at fn one::eight returns", "accepted: FAILED: NOT REFUSED: one is still proved",
                      "unfit: FAILED: it does not fit: crates/one/src/lib.rt has 0 times:     9", "not-compiled: FAILED: it did not reach the prover (exit 1)",
                      "type: refused, as it must be, by one by its types: expected `usize`, found `bool`"):
             self.assertIn(f"must-fail one/{line}", run.stdout)
@@ -708,10 +730,12 @@ class MustFail(unittest.TestCase):
 
 EIGHT = """\
 // a number
-ghost use mathlib.Core.Path.{_≡_};
+#![tactic(auto)]
+
+ghost use Rattle.std.specs.Prelude.{◌≡◌};
 
 pub fn eight() -> usize
-    ensures { λ r. ⌜ r ≡ 8 ⌝ }
+    ensures { result ≡ 8 }
 {
     8
 }
