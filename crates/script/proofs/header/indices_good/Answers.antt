@@ -5,14 +5,12 @@ use Rattle.script.proofs.header.indices_good.Goals as goal
 
 pub returns-then-word_at-ge-TABLE_WORDS : goal.returns-then-word_at-ge-TABLE_WORDS
 returns-then-word_at-ge-TABLE_WORDS c =
-    sym
-    (c.loop-left.invariant.rest
-    ∙ indices_over _ _ _ c.loop-left-test.true (rw c.word_at.ensures at c.if-word_at-ge-TABLE_WORDS.true))
+    sym (c.loop-left.invariant.rest ∙ indices_over _ _ _ c.loop-left-test.true (omega arith))
 
 pub loop-left-preserved : goal.loop-left-preserved
 loop-left-preserved c =
     record {
-      rest = c.loop-left.invariant.rest ∙ indices_next _ _ _ c.loop-left-test.true (rw c.word_at.ensures at c.if-word_at-ge-TABLE_WORDS.false);
+      rest = c.loop-left.invariant.rest ∙ indices_next _ _ _ c.loop-left-test.true (omega arith);
       inside = omega arith;
     }
 
