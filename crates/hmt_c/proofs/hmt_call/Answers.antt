@@ -25,7 +25,7 @@ returns-then-refusal-ne0 c =
     let t : FlashWord = flash_word c.args.target in
     let site : FlashWord = flash_word c.args.site in
     let p : RamByte = ram_byte c.args.pointer in
-    c.refusal_before-refusal.ensures.some c.if-refusal-ne0.true c.args.table.now (Call t site p) (right_table c.args.table.now t site p c.if-table-ne-TABLE_BYTES.false)
+    c.refusal_before-refusal.ensures.some c.if-refusal-ne0.true c.args.table.now (Call t site p) (right_table c.args.table.now t site p (omega arith))
 
 pub code_range-code-requires : goal.code_range-code-requires
 code_range-code-requires c =
@@ -62,7 +62,7 @@ returns c =
     let same = call_by_word s ram (table_in table) t site p word (length-words_at table 0 table_words)
     (λ from to. (rw e at (get_or-words_at table 0 table_words (table_word s.config t) to)) ∙ sym (rw (at to) at c.word_at-word.ensures))
     ∙ sym (handed ram (table_of word) _ s _ t _ site _ p c.state_in-state.ensures c.flash_word-2.ensures c.flash_word-3.ensures c.ram_byte.ensures) in
-    changed_to_c slot ram table (Call t site p) (λ i. search rules) (right_table table t site p c.if-table-ne-TABLE_BYTES.false) ready
+    changed_to_c slot ram table (Call t site p) (λ i. search rules) (right_table table t site p (omega arith)) ready
     _ _ c.call_with-outcome.result c.change.result
     (gives_as c.call_with-outcome.result c.call_with-outcome.new.ram (call_of s ram (table_in table) t site p)
     (call_of c.state_in-state.result ram (table_of word) c.flash_word-2.result c.flash_word-3.result c.ram_byte.result) same c.call_with-outcome.ensures)
