@@ -4,10 +4,11 @@ use Prim.Native.Nat.{ℕ, zero, suc, ◌+◌, ◌/◌, ◌%◌, ◌^◌, ◌≤�
 use mathlib.Core.Path.{◌≡◌, refl, sym, ap, ◌∙◌}
 use mathlib.Core.List.{List, [], ◌∷◌, ◌++◌}
 use native.Mathlib.Omega.{arith}
+use native.Mathlib.Numerals.{add-one}
 use native.Mathlib.Nat.{add-zero, add-suc, suc-add, pow-suc, div-lt_iff_lt-mul}
 use lib.Dec.{ltb}
-use lib.ListN.{length, set, length-append}
-use lib.Seq.{sets, length-sets}
+use lib.ListN.{length, get_or, drop, set, length-append}
+use lib.Seq.{sets, length-sets, drop-cons}
 use borrow.Author.Tests.{lt-ltb, le-ltb}
 use Rattle.rules.specs.Script.{space, new_line, digit_text, last_digits, decimal, line_of, set_up_text}
 use Rattle.rules.specs.declared.Outcome.{Outcome}
@@ -16,6 +17,11 @@ use Rattle.laws.proofs.Tests.{by_test}
 use Rattle.script.specs.Text.{Wrote, handed, line_most, set_up_most}
 
 -- ---- pieces
+
+-- the next byte of a text
+pub sets-next : (l : List ℕ) (at : ℕ) (text : List ℕ) (i : ℕ) → i < length text
+    → sets l at (drop i text) ≡ sets (set l at (get_or text i 0)) (at + 1) (drop (i + 1) text)
+sets-next l at text i h = rw (add-one at, add-one i, drop-cons text i 0)
 
 -- two texts, one behind the other
 sets-append : (l : List ℕ) (at : ℕ) (xs ys : List ℕ) → sets l at (xs ++ ys) ≡ sets (sets l at xs) (at + length xs) ys
@@ -94,6 +100,9 @@ step_decimal n w = step 5 (decimal_most n) w
 
 pub step_field : (n : ℕ) {l m : List ℕ} {at r : ℕ} → Wrote l m at (space ∷ decimal n) r → Step l m at r 6
 step_field n w = step 6 (omega (arith, decimal_most n)) w
+
+pub step_then : {l m n : List ℕ} {at q r j k : ℕ} → Step l m at q j → Step m n q r k → Step l n at r (j + k)
+step_then v w = record { near = omega arith; kept = w.kept ∙ v.kept }
 
 -- a line, number by number
 pub wrote_line : {l m₁ m₂ m₃ m₄ m₅ m₆ : List ℕ} {at r₁ r₂ r₃ r₄ r₅ r₆ : ℕ} (count number value : ℕ) (o : Outcome)
