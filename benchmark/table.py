@@ -2,9 +2,6 @@
 """The reading and the laying out for ./bench.
 
     table.py callgrind FILE     the instructions in each dump FILE.1, FILE.2, ..
-    table.py emulator ADDRESS   the same from the emulator's log on standard
-                                input: one line for each instruction; ADDRESS
-                                is where the mark between two cases stands
     table.py table FOLDER TEXT  the table, in markdown
     table.py write PAGE TABLE   puts it between the page's two marks
 """
@@ -19,17 +16,6 @@ def callgrind(file):
         with open("%s.%d" % (file, number), encoding="utf-8") as dump:
             print(re.search(r"^(?:totals|summary): (\d+)", dump.read(), re.M).group(1))
         number += 1
-
-
-def emulator(address):
-    mark = b"/%016x/" % int(address, 16)
-    count = 0
-    for line in sys.stdin.buffer:
-        if line.startswith(b"Trace "):
-            count += 1
-            if mark in line:
-                print(count)
-                count = 0
 
 
 def read(folder, name):
@@ -47,7 +33,7 @@ def ratio(ours, theirs):
 
 
 def mean_times(folder):
-    """For each case the mean times of ours, the C and the loop over the programs that were timed; nothing if none was."""
+    """For each case the mean times of ours, the C and the loop over the programs that were timed."""
     runs = [[[float(n) for n in line.split()] for line in read(folder, name)] for name in sorted(os.listdir(folder)) if name.startswith("time.")]
     return [[sum(numbers) / len(runs) for numbers in zip(*case)] for case in zip(*runs)]
 
@@ -59,30 +45,24 @@ def most(above):
 def table(folder, about):
     cases = [line.split("\t") for line in read(folder, "cases")]
     ours, theirs, loop = (per_call(folder, s) for s in ("library", "plain", "nothing"))
-    if not len(cases) == len(ours) == len(theirs) == len(loop):
-        sys.exit("table.py: %d cases, but %d, %d and %d counts" % (len(cases), len(ours), len(theirs), len(loop)))
-    times = mean_times(folder)
-    print("C compiler: %s. Instructions%s of one call, without the loop around it." % (about, " and nanoseconds" if times else ""))
+    alike, times = per_call(folder, "alike"), mean_times(folder)
+    counts = [len(found) for found in (ours, theirs, loop, alike, times)]
+    if set(counts) != {len(cases)}:
+        sys.exit("table.py: %d cases, but %s counts and times" % (len(cases), ", ".join(map(str, counts))))
+    print("C compiler: %s. Instructions and nanoseconds of one call, without the loop around it." % about)
     print()
-    print("| function | case | answer | ours | C | ratio |" + (" ours, ns | C, ns | ratio |" if times else ""))
-    print("|---|---|--:|--:|--:|--:|" + ("--:|--:|--:|" if times else ""))
+    print("| function | case | answer | ours | C | ratio | ours, ns | C, ns | ratio |")
+    print("|---|---|--:|--:|--:|--:|--:|--:|--:|")
     above = []
     for i, (function, what, number) in enumerate(cases):
         a, b = ours[i] - loop[i], theirs[i] - loop[i]
-        line = "| %s | %s | %s | %g | %g | %s |" % (function, what, number, a, b, ratio(a, b))
+        x, y = times[i][0] - times[i][2], times[i][1] - times[i][2]
+        print("| %s | %s | %s | %g | %g | %s | %.1f | %.1f | %s |" % (function, what, number, a, b, ratio(a, b), x, y, ratio(x, y)))
         if a > b:
             above.append(a / b)
-        if times:
-            x, y = times[i][0] - times[i][2], times[i][1] - times[i][2]
-            line += " %.1f | %.1f | %s |" % (x, y, ratio(x, y))
-        print(line)
     print()
     print("%d cases; %s" % (len(cases), most(above)))
-    if os.path.exists(os.path.join(folder, "alike.10")):
-        alike = per_call(folder, "alike")
-        if len(alike) != len(cases):
-            sys.exit("table.py: %d cases, but %d counts of the C by clang" % (len(cases), len(alike)))
-        print("The same C compiled by the kit's clang, which compiles ours: %s" % most([(a - l) / (b - l) for a, b, l in zip(ours, alike, loop) if a > b]))
+    print("The same C compiled by the kit's clang, which compiles ours: %s" % most([(a - l) / (b - l) for a, b, l in zip(ours, alike, loop) if a > b]))
     # Refused with 4 right behind the check of the state; done behind the check of the block too.
     done, refused = (cases.index(case) for case in (["store", "own block", "0"], ["store", "address 4096", "4"]))
     print()
@@ -103,4 +83,4 @@ def write(page, made):
 
 
 if __name__ == "__main__":
-    {"callgrind": callgrind, "emulator": emulator, "table": table, "write": write}[sys.argv[1]](*sys.argv[2:])
+    {"callgrind": callgrind, "table": table, "write": write}[sys.argv[1]](*sys.argv[2:])

@@ -19,7 +19,9 @@ OWNERS = ("rules/", "address/", "map/")  # crates that may name a block
 MADE = re.compile(r"\b(?:RamByte|FlashWord|Block)\(")
 STORED = re.compile(r"\.0\s*(?:[-+*/%&|^]|<<|>>)?=(?!=)")
 BLOCK = re.compile(r"\b(?:Block|Found|block_of|start_of|further|before|first_block|map_byte)\b")
-PUBLIC = re.compile(r"^\s*pub\s+fn\s+\w+\s*\([^{;]*?(?=\s*(?:requires|ensures)?\s*\{)", re.M)
+PUBLIC = re.compile(r'^\s*pub\s+(?:const\s+)?(?:extern\s+"C"\s+)?fn\s[^{]*', re.M)
+# what only the checker reads, up to the bracket that it opens
+GHOST = re.compile(r"\bghost\s+use\b[^;{]*(\{)|\b(?:requires|ensures)(?:\s+\w+)?\s*(\{)|#!?(\[)")
 OFFSET = re.compile(r"\b(?:above|below|further|before)\((?:[^(),]|\([^()]*\))*,\s*[\w.]+\.0\s*\)")
 
 
@@ -37,13 +39,30 @@ def places(name, text):
     yield from ((m.start(), "the number inside an address is handed as an offset") for m in OFFSET.finditer(text))
 
 
+def code(text):
+    """A source with comments, clauses, ghost imports and attributes blanked, so that places keep their lines."""
+    def blank(text, start, end):
+        return text[:start] + re.sub(r"[^\n]", " ", text[start:end]) + text[end:]
+
+    for comment in list(re.finditer(r"//[^\n]*", text)):
+        text = blank(text, *comment.span())
+    while ghost := GHOST.search(text):
+        end = start = max(ghost.span(k)[0] for k in (1, 2, 3))
+        depth = 0
+        for end in range(start, len(text)):
+            depth += (text[end] in "{[(") - (text[end] in "}])")
+            if depth == 0:
+                break
+        text = blank(text, ghost.start(), end + 1)
+    return text
+
+
 def search(root):
     found = []
     for path in sorted(glob.glob(os.path.join(root, "crates", "*", "src", "**", "*.rt"), recursive=True)):
         name = os.path.relpath(path, os.path.join(root, "crates")).replace(os.sep, "/")
         with open(path, encoding="utf-8") as source:
-            # comments and clauses are blanked, so that places keep their lines
-            text = re.sub(r"//[^\n]*|⌜[^⌝]*⌝", lambda m: re.sub(r"[^\n]", " ", m.group(0)), source.read())
+            text = code(source.read())
         found += [f"crates/{name}:{text.count(chr(10), 0, at) + 1}: {what}" for at, what in places(name, text)]
     return found
 

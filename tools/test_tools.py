@@ -451,54 +451,59 @@ class Tools(unittest.TestCase):
         """What tools/contracts.py says of a made-up crate, after some texts in its files were put in the place of others."""
         files = {
             "crates/promises/specs/Uniqueness.antt": """
-use Prim.Native.Nat.{ℕ, _+_, _<_}
-use mathlib.Core.Path.{_≡_}
-use mathlib.Core.List.{List}
-use lib.ListN.{length}
-use Rattle·rules.specs.declared.Word.{Word}
-use Rattle·rules.specs.Sums.{sum, word}
+use Rattle.std.specs.Prelude.{ℕ, ◌+◌, ◌<◌, ◌≡◌, List, length}
+use Rattle.rules.specs.declared.Word.{Word}
+use Rattle.rules.specs.Sums.{sum, word}
 
 pub record Uniqueness : Type 1 where
-  pub total : (xs : List ℕ) (n : ℕ) → Only (λ r. (r ≡ sum xs + n) × (n < length xs → r ≡ 0))
-  pub next : (k : Word) (n : ℕ) → Only (λ r. r ≡ word (k .0 + n))
-  pub most : (n : ℕ) → Only (λ r. (r ≡ n) × ((j : ℕ) → j < n → j < r))
-  pub put : (shown : ℕ → ℕ) (n : ℕ) (out : List ℕ) → Only2 (λ r out′. (r ≡ (shown n)) × (out′ ≡ sum out + r))
+  pub only_total : (xs : List ℕ) (n : ℕ) → Only (λ r. (r ≡ sum xs + n) × (n < length xs → r ≡ 0))
+  pub only_next : (k : Word) (n : ℕ) → Only (λ r. r ≡ word (k.0 + n))
+  pub only_most : (n : ℕ) → Only (λ m. (m ≡ n) × ((j : ℕ) → j < n → j < m))
+  pub only_put : (shown : ℕ → ℕ) (n : ℕ) (out : List ℕ)
+      → Only2 (λ r out'. (r ≡ (shown n)) × (out' ≡ sum out + r))
+  pub only_clear : (out : List ℕ) → Only (λ out'. out' ≡ out)
 """,
             "crates/thing/specs/Own.antt": """
-use Prim.Native.Nat.{ℕ, _+_}
-use mathlib.Core.Path.{_≡_}
-use mathlib.Core.List.{List}
-use Rattle·rules.specs.Sums.{sum}
+use Rattle.std.specs.Prelude.{ℕ, ◌+◌, ◌≡◌, List}
+use Rattle.rules.specs.Sums.{sum}
 
 pub shown : ℕ → ℕ
 shown n = n + n
 
 abbrev pub Wrote : List ℕ → List ℕ → ℕ → ℕ → Type 0
-Wrote before after text r = (r ≡ text) × (after ≡ sum before + r)
+Wrote before after text r =
+    (r ≡ text)
+    × (after ≡ sum before + r)
 """,
             "crates/thing/src/lib.rt": """
-ghost use mathlib.Core.Path.{_≡_};
-ghost use Prim.Native.Nat.{ℕ, _+_, _<_};
-ghost use lib.ListN.{length};
-ghost use Rattle·rules.specs.Sums.{sum, word};
-ghost use Rattle·thing·specs.specs.Own.{shown, Wrote};
-use rules::Word;
+ghost use Rattle.std.specs.Prelude.{◌≡◌, ℕ, ◌+◌, ◌<◌, length};
+ghost use Rattle.rules.specs.Sums.{sum, word};
+ghost use Rattle.thing.specs.Own.{shown, Wrote};
+
+use rules::{State, Word};
 
 pub fn total(xs: &[u8], n: u16) -> u32
-    ensures { λ r. ⌜ (r ≡ sum (now (xs .entry)) + n) × (n < length (now (xs .entry)) → r ≡ 0) ⌝ }
+    ensures { (result ≡ sum xs.now + n) × (n < length xs.now → result ≡ 0) }
 { }
 
 pub fn next(k: Word, n: u16) -> Word
-    requires { ⌜ n < 9 ⌝ }
-    ensures { λ r. ⌜ r ≡ word (k .0 + n) ⌝ }
+    requires low { n < 9 }
+    requires high { 3 < n }
+    ensures { result ≡ word (k.0 + n) }
 { }
 
 pub fn most(mut n: u16) -> u16
-    ensures { λ r. ⌜ (r ≡ n) × ((j : ℕ) → j < n → j < r) ⌝ }
+    ensures same { result ≡ n }
+    ensures least { (j : ℕ) → j < n → j < result }
 { }
 
 pub fn put(n: u16, out: &mut [u8]) -> u16
-    ensures { λ r. ⌜ Wrote (now (out .entry)) (now (out .exit)) (shown n) r ⌝ }
+    ensures { Wrote out.old out.new (shown n) result }
+{ }
+
+#[unsafe(no_mangle)]
+pub extern "C" fn clear(out: &mut [u8])
+    ensures { out.new ≡ out.old }
 { }
 """,
         }
@@ -517,40 +522,65 @@ pub fn put(n: u16, out: &mut [u8]) -> u16
 
     def test_contracts_that_are_unique(self):
         page = self.contracts()
-        self.assertTrue(page.endswith("alone: thing::next\ncontracts: 4 passed, 0 failed\n"), page)
+        self.assertTrue(page.endswith("alone: thing::next\ncontracts: 5 passed, 0 failed\n"), page)
+
+    def test_contracts_that_say_something_else(self):
+        """In the words, in the places that they speak of, and in the names that stand for these."""
+        lib, record = "lib.rt", "Uniqueness.antt"
+        for wrong, failed, *change in (
+                ("its field says", 1, lib, "sum xs.now + n", "sum xs.now + 1"),
+                ("its field says", 1, lib, "    ensures same { result ≡ n }\n", ""),
+                ("its field says", 1, lib, "    ensures least { (j : ℕ) → j < n → j < result }\n", ""),
+                ("its field says", 1, lib, "out.new ≡ out.old", "out.old ≡ out.new"),
+                ("its field says", 1, record, "(n < length xs → r ≡ 0)", "(n < length xs) × (r ≡ 0)"),
+                ("it has no contract", 1, lib, "    ensures { out.new ≡ out.old }\n", ""),
+                ("has no field of its name", 2, record, "only_clear", "only_cleared"),
+                ("has a field only_other, and no public function has that name", 1, record, "  pub only_clear :", "  pub only_other : Only (λ r. r ≡ 0)\n  pub only_clear :"),
+                ("its field is about r, and it leaves its result, out'", 1, record, "Only2 (λ r out'.", "Only (λ r."),
+                ("its field is about out', r, and it leaves out'", 1, record, "Only (λ out'.", "Only2 (λ out' r."),
+                ("its field is about n, and it leaves its result", 1, record, "(λ m. (m ≡ n) × ((j : ℕ) → j < n → j < m))", "(λ n. (n ≡ n) × ((j : ℕ) → j < n → j < n))"),
+                ("its field is about other parameters", 1, record, "(k : Word)", "(k : ℕ)"),
+                ("names `xs` without saying when", 1, lib, "length xs.now →", "length xs →"),
+                ("names `out` without saying when", 1, lib, "out.new ≡ out.old", "out.new ≡ out.now"),
+                ("binds a name that its field has for something else", 1, lib, "(j : ℕ) → j < n → j < result", "(m : ℕ) → m < n → m < result"),
+                ("binds a name that its field has for something else", 1, lib, "(j : ℕ) → j < n → j < result", "(n : ℕ) → n < n → n < result"),
+                ("`Sums.sum` is named by its path", 1, lib, "sum xs.now + n", "Sums.sum xs.now + n")):
+            with self.subTest(wrong=wrong, change=change):
+                page = self.contracts(change)
+                self.assertIn(wrong, page)
+                self.assertTrue(page.endswith(f", {failed} failed\n"), page)
 
     def test_contracts_whose_names_are_from_elsewhere(self):
         """Words and operators, by a use line of another module, by a renaming or by a module brought whole; in the source, in the
         crate's specs and in the record."""
-        path, less, lib, own, record = "ghost use mathlib.Core.Path.{_≡_};", "{ℕ, _+_, _<_}", "lib.rt", "Own.antt", "Uniqueness.antt"
+        lib, own, record = "lib.rt", "Own.antt", "Uniqueness.antt"
+        all_ = "{◌≡◌, ℕ, ◌+◌, ◌<◌, length};"
         for wrong, failed, *change in (
-                ("`≡` is from other.Place, and in its field from mathlib.Core.Path", 3, lib, path, "ghost use other.Place.{_≡_};"),
-                ("`<` is from other.Place, and in its field from Prim.Native.Nat", 2, lib, less + ";",
-                 "{ℕ, _+_}; ghost use other.Place.{_<_};"),
-                ("`+` is from other.Place, and in its field from Prim.Native.Nat", 2, lib, less, "{ℕ, _<_};\nghost use other.Place.{_+_}"),
-                ("`<` is from nowhere, and in its field from Prim.Native.Nat", 2, lib, less, "{ℕ, _+_}"),
-                ("`×` is from other.Place, and in its field from nowhere", 2, lib, path, path + "ghost use other.Place.{_×_};"),
-                ("`≡` is from mathlib.Core.Path, other.Place, and", 3, lib, path, path + "\nghost use other.Place.{_≡_over_};"),
-                ("`length` is from other.Place, and in its field from lib.ListN", 1, lib, "lib.ListN", "other.Place"),
-                ("`use other.Place.{_≢_ as _≡_}` renames", 4, lib, path, "ghost use other.Place.{_≢_ as _≡_};"),
-                ("`use other.Place.{In._≡_}` renames", 4, lib, path, "ghost use other.Place.{In._≡_};"),
-                ("`use other as mathlib` renames", 4, lib, path, "ghost use other as mathlib;\n" + path),
-                ("`use other.mathlib` renames a name or brings a module", 4, lib, path, "ghost use other.mathlib;\n" + path),
-                ("the type `Word` is from another place", 1, lib, "rules::Word", "other::Word"),
-                ("the type `Word` is from another place", 1, lib, "rules::Word", "rules::Block as Word"),
-                ("`≡` is from other.Place, and in its field from mathlib.Core.Path", 1, own, "mathlib.Core.Path", "other.Place"),
+                ("`≡` is from other.Place, and in its field from Rattle.std.specs.Prelude", 4, lib, all_, "{ℕ, ◌+◌, ◌<◌, length};\nghost use other.Place.{◌≡◌};"),
+                ("`<` is from other.Place, and in its field from Rattle.std.specs.Prelude", 2, lib, all_, "{◌≡◌, ℕ, ◌+◌, length}; ghost use other.Place.{◌<◌};"),
+                ("`+` is from other.Place, and in its field from Rattle.std.specs.Prelude", 2, lib, all_, "{◌≡◌, ℕ, ◌<◌, length};\nghost use other.Place.{◌+◌};"),
+                ("`<` is from nowhere, and in its field from Rattle.std.specs.Prelude", 2, lib, all_, "{◌≡◌, ℕ, ◌+◌, length};"),
+                ("`×` is from other.Place, and in its field from nowhere", 1, lib, all_, all_ + "ghost use other.Place.{◌×◌};"),
+                ("`≡` is from Rattle.std.specs.Prelude, other.Place, and", 4, lib, all_, all_ + "\nghost use other.Place.{◌≡◌over◌};"),
+                ("`length` is from other.Place, and in its field from Rattle.std.specs.Prelude", 1, lib, all_, "{◌≡◌, ℕ, ◌+◌, ◌<◌};\nghost use other.Place.{length};"),
+                ("`use other.Place.{◌≢◌ as ◌≡◌}` renames", 5, lib, all_, all_ + "ghost use other.Place.{◌≢◌ as ◌≡◌};"),
+                ("`use other.Place.{In.◌≡◌}` renames", 5, lib, all_, all_ + "ghost use other.Place.{In.◌≡◌};"),
+                ("`use other as Rattle` renames", 5, lib, all_, all_ + "ghost use other as Rattle;\n"),
+                ("`use other.Rattle` renames a name or brings a module", 5, lib, all_, all_ + "ghost use other.Rattle;\n"),
+                ("the type `Word` is from another place", 1, lib, "use rules::{State, Word}", "use other::{State, Word}"),
+                ("the type `Word` is from another place", 1, lib, "use rules::{State, Word}", "use rules::{State, Block as Word}"),
+                ("`≡` is from other.Place, and in its field from Rattle.std.specs.Prelude", 1, own, "◌+◌, ◌≡◌, List}", "◌+◌, List}\nuse other.Place.{◌≡◌}"),
                 ("`shown`, a parameter of its field, is none of its own", 1, own, "shown : ℕ → ℕ", "shown : ℕ → Word"),
-                ("`h`, a parameter of its field, is none of its own", 1, record, "next : ", "next : (h : Never) "),
-                ("the type `ℕ` is from another place", 4, record, "{ℕ, _+_, _<_}", "{_+_, _<_}\nuse other.Place.{ℕ}"),
-                ("`≡` is from mathlib.Core.Path, and in its field from other.Place", 4, record, "mathlib.Core.Path", "other.Place"),
-                ("`≡` is from mathlib.Core.Path, and in its field from nowhere", 4, record, "use mathlib.Core.Path.{_≡_}\n", ""),
-                ("its field says", 1, lib, "sum (now (xs .entry)) + n", "sum (now (xs .entry)) + 1")):
+                ("`h`, a parameter of its field, is none of its own", 1, record, "only_next : ", "only_next : (h : Never) "),
+                ("the type `ℕ` is from another place", 5, record, "{ℕ, ◌+◌", "{◌+◌"),
+                ("`≡` is from Rattle.std.specs.Prelude, and in its field from other.Place", 5, record, "◌≡◌, List, length}", "List, length}\nuse other.Place.{◌≡◌}"),
+                ("`≡` is from Rattle.std.specs.Prelude, and in its field from nowhere", 5, record, "◌≡◌, List", "List")):
             with self.subTest(wrong=wrong, change=change):
                 page = self.contracts(change)
                 self.assertIn(wrong, page)
-                self.assertTrue(page.endswith(f"contracts: {4 - failed} passed, {failed} failed\n"), page)
-        page = self.contracts((record, "mathlib.Core.Path.{_≡_}", "other.Place.{_≢_ as _≡_}"))
-        self.assertIn("`use other.Place.{_≢_ as _≡_}` renames", page)
+                self.assertTrue(page.endswith(f"contracts: {5 - failed} passed, {failed} failed\n"), page)
+        page = self.contracts((record, "◌≡◌, List", "◌≢◌ as ◌≡◌, List"))
+        self.assertIn("◌≢◌ as ◌≡◌, List, length}` renames", page)
         self.assertTrue(page.endswith("contracts: 0 passed, 1 failed\n"), page)
 
     # ---- addresses ----
@@ -558,15 +588,21 @@ pub fn put(n: u16, out: &mut [u8]) -> u16
     def test_addresses_that_are_mixed(self):
         """What tools/addresses.py finds in a made-up source, and that it passes what is right."""
         right = "pub fn f(config: Config, a: RamByte) -> bool\n{ a.0 <= 3 && above(a, n).0 == 4 }\n"
+        ghost = ("ghost use Rattle.rules.specs.Memory.{Block, block_of};\n#[tactic(auto, using(crate::proofs::M::block_of))]\nfn f(a: RamByte)\n"
+                 "    requires below { let b = RamByte(3) in (λ a. { a.0 = 3; Block }) }\n    ensures { block_of a ≡ Found }\n")
         for name, text, wrong in (
                 ("frames", right, ""),
+                ("frames", ghost + "{ }", ""),
+                ("frames", ghost + "{ Block }", "6: a block number outside the map code"),
+                ("map", ghost.replace("fn f", "pub fn f") + "{ }", ""),
                 ("frames", "fn f(k: u16) { RamByte(k) }", "1: an address is made from a number"),
                 ("frames", "\nfn f(mut r: RamByte, k: FlashWord) { r.0 = k.0; }", "2: the number inside an address is stored to"),
                 ("frames", "fn f(mut r: RamByte) { r.0 += 1; }", "1: the number inside an address is stored to"),
                 ("frames", "fn f(bot: RamByte, site: FlashWord) { above(bot, site.0) }", "1: the number inside an address is handed as an offset"),
                 ("frames", "use rules::Block;", "1: a block number outside the map code"),
                 ("map", "fn f(k: Block) { further(k, 1) }", ""),
-                ("map", "pub fn f(\n    config: Config,\n    k: Block,\n) -> u16\n{ 1 }", "1: a public function of the map names a block")):
+                ("map", "pub fn f(\n    config: Config,\n    k: Block,\n) -> u16\n{ 1 }", "1: a public function of the map names a block"),
+                ("map", "pub fn f(ram: &[u8; 4], k: Block)\n    ensures one { k.0 ≡ 1 }\n{ }", "1: a public function of the map names a block")):
             with self.subTest(text=text):
                 root = Path(tempfile.mkdtemp(dir=self.folder))
                 (root / "crates" / name / "src").mkdir(parents=True)
@@ -579,30 +615,30 @@ pub fn put(n: u16, out: &mut [u8]) -> u16
 
     def unbuilt(self, crates):
         """A copy of what ./run needs, with nothing built, and with a stand-in for rt that knows these crates: it writes down what it was
-        asked, says that each crate is proved and copies a program; it refuses where a file `refuse` is. The command, its
+        asked and where, says that it proves each crate and copies a program; it refuses where a file `refuse` is. The command, its
         environment and the program."""
         for part in ("run", "tools", "examples"):
             copy = shutil.copytree if (ROOT / part).is_dir() else shutil.copy
             copy(ROOT / part, self.folder / part)
-        for folder in ("crates/hmt", "bin"):
+        for folder in ("crates/hmt/src", "bin"):
             (self.folder / folder).mkdir(parents=True)
         self.file("crates.txt", "# a crate and those it rests on\n" + "".join(f"{name}: {on}\n" for name, on in crates.items()))
         # what the program under test asks of rt goes to the real one
         stand_in = self.file("bin/rt", f'#!/bin/sh\ntest "$1" != doc || exec "{shutil.which("rt")}" doc\n'
-                             'echo "$*" >> asked\necho "struct a::B: proved"\n'
-                             'test ! -e refuse || { echo "rt: a NOT PROVED" >&2; exit 1; }\n'
-                             f'for name in {" ".join(crates)}; do echo "rt: $name proved (1 s)"; done\n'
-                             'test -e target/bin/hmt || { mkdir -p target/bin; cp program target/bin/hmt; }\n')
-        runner = self.file("tools/hmt", '#!/bin/sh\nexec "$(dirname "$0")/../target/bin/hmt"\n')
-        for path in (stand_in, runner, self.file("program", f'#!/bin/sh\nexec "{PROGRAM}"\n')):
+                             f'top="{self.folder}"\nexec >&2\necho "$* in ${{PWD#"$top"/}}" >> "$top/asked"\n'
+                             f'for name in {" ".join(name.split()[0] for name in crates)}; do\n'
+                             '  echo "rt: chose --jobs 2 for $name"; echo "fn $name::f: proved"\n'
+                             '  test ! -e "$top/refuse" || { echo "fn $name::g: not proved"; exit 1; }\ndone\n'
+                             'mkdir -p out\ntest -e out/hmt || cp "$top/program" out/hmt\n')
+        for path in (stand_in, self.file("program", f'#!/bin/sh\nexec "{PROGRAM}"\n')):
             os.chmod(path, 0o755)
         command = [str(self.folder / "run"), "--plain", str(self.folder / "examples" / "sample.txt")]
-        return command, {"HMT": "", "PATH": f"{self.folder / 'bin'}:{os.environ['PATH']}"}, self.folder / "target" / "bin" / "hmt"
+        return command, {"HMT": "", "PATH": f"{self.folder / 'bin'}:{os.environ['PATH']}"}, self.folder / "crates" / "hmt" / "out" / "hmt"
 
     def test_builds_when_due(self):
         """Built when it is missing or older than a source, said once, and not else."""
         command, env, built = self.unbuilt({"hmt": ""})
-        source = self.file("crates/hmt/main.rt", "")
+        source = self.file("crates/hmt/src/main.rt", "")
         asked = 0
         for built_age, due in ((None, True), (None, False), (100, False), (300, True), (None, False)):
             os.utime(source, (time.time() - 200,) * 2)
@@ -611,28 +647,28 @@ pub fn put(n: u16, out: &mut [u8]) -> u16
             with self.subTest(built_age=built_age, due=due):
                 result = self.start(command, env=env, cwd="/")
                 self.assertEqual((result.returncode, result.stdout), (0, SAMPLE_ANSWERS))
-                self.assertEqual(result.stderr.count("building target/bin/hmt"), due)
+                self.assertEqual(result.stderr.count("building crates/hmt/out/hmt"), due)
                 asked += due
-                self.assertEqual((self.folder / "asked").read_text(), "check hmt\n" * asked)
+                self.assertEqual((self.folder / "asked").read_text(), "run in crates/hmt\n" * asked)
         os.remove(built)
         self.file("refuse", "")
         result = self.start(command, env=env)
         self.assertEqual((result.returncode, result.stdout), (2, b""))
-        self.assertIn("struct a::B: proved\nrt: a NOT PROVED\n"
-                      "can't build target/bin/hmt: `rt check hmt` ended with status 1\n", result.stderr)
+        self.assertIn("fn hmt::f: proved\nfn hmt::g: not proved\ncan't build crates/hmt/out/hmt: `rt run` ended with status 1\n", result.stderr)
         os.remove(self.folder / "bin" / "rt")
         result = self.start([sys.executable, *command], env={**env, "PATH": str(self.folder / "bin")})
         self.assertEqual(result.returncode, 2)
-        self.assertIn("can't build target/bin/hmt: rt: No such file", result.stderr)
+        self.assertIn("can't build crates/hmt/out/hmt: rt: No such file", result.stderr)
 
     def test_building_says_which_crate_is_proved(self):
         """A line for each crate that the program rests on, and nothing of what rt says; on a terminal one line, in the end empty."""
-        command, env, built = self.unbuilt({"rules": "", "map": "rules", "aside": "rules", "hmt": "map io"})
+        command, env, built = self.unbuilt({"rules": "", "hmt": "map std", "map": "rules", "aside staticlib": "rules"})
+        (self.folder / "bin" / "rt").write_text((self.folder / "bin" / "rt").read_text().replace("rules hmt map aside", "rules aside map hmt"))
         steps = ["run: proving rules (1 of 3)", "run: proving map (2 of 3)", "run: proving hmt (3 of 3)"]
         result = self.start(command, env=env)
         self.assertEqual((result.returncode, result.stdout), (0, SAMPLE_ANSWERS))
         first, *others = result.stderr.splitlines()
-        self.assertIn("about three minutes", first)
+        self.assertIn("takes some minutes", first)
         self.assertEqual(others, steps)
         os.remove(built)
         reader, terminal = os.openpty()

@@ -4,7 +4,8 @@
 ghost use Rattle.std.specs.Prelude.{◌≡◌, length};
 ghost use Rattle.hmt.specs.Input.{Within};
 
-use libc::{STDERR_FILENO, STDIN_FILENO, STDOUT_FILENO};
+use std::io;
+use std::io::{Read, Write};
 
 // How the reading of standard input ended.
 #[derive(Clone, Copy)]
@@ -16,27 +17,22 @@ enum Input {
 }
 
 // Reads until the place is full or the input ends.
-fn read_input(place: &mut [u8]) -> Input
+fn read_input<R: Read>(reader: &mut R, place: &mut [u8]) -> Input
     ensures { Within place.new result }
 {
     let mut done = 0;
     while done < place.len() {
-        let rest = &mut place[done..];
-        let got = libc::read(STDIN_FILENO, rest);
-        if got < 0 {
-            return Input::Failed;
+        match reader.read(&mut place[done..]) {
+            Ok(0) => return Input::Bytes(done),
+            Ok(more) => done += more,
+            Err(_) => return Input::Failed,
         }
-        let more = io::count(got, rest);
-        if more == 0 {
-            return Input::Bytes(done);
-        }
-        done += more;
     }
     Input::Bytes(done)
 }
 
-fn complain(words: &[u8]) {
-    io::write_all(STDERR_FILENO, words);
+fn complain(rt: &impl Eprint, words: &str) {
+    let _ = rt.eprintln(words);
 }
 
 // A place for the text of any script. The contract gives only its length.
@@ -47,20 +43,20 @@ fn text_place() -> [u8; script::MOST_TEXT]
 }
 
 // The text of a script, written at once.
-fn print(input: &[u8]) {
+fn print(rt: &(impl Print + Eprint), input: &[u8]) {
     let mut out = text_place();
     let n = script::run(input, &mut out);
-    if !io::write_all(STDOUT_FILENO, &out[..n]) {
-        complain(b"hmt: standard output could not be written\n");
+    if io::writer(rt).write_all(&out[..n]).is_err() {
+        complain(rt, "hmt: standard output could not be written");
     }
 }
 
 // One byte more than a script may have is read, so that a longer one is told from the longest.
-fn main() {
+fn main(rt: HostRuntime) {
     let mut place = [0u8; 65537];
-    let read = read_input(&mut place);
+    let read = read_input(&mut rt.stdin(), &mut place);
     match read {
-        Input::Bytes(n) => print(&place[..n]),
-        Input::Failed => complain(b"hmt: standard input could not be read\n"),
+        Input::Bytes(n) => print(&rt, &place[..n]),
+        Input::Failed => complain(&rt, "hmt: standard input could not be read"),
     }
 }

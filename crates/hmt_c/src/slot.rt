@@ -92,8 +92,8 @@ fn rising(slot: &[u8]) -> bool
 
 // Whether a range is apart from those that stand from a place on.
 fn apart_from(slot: &[u8], range: Range, from: usize) -> bool
-    requires slot_len { length slot.now ≡ slot_bytes }
-    requires from_le_run_part { (from ≤ run_part) × (from % 4 ≡ run_part % 4) }
+    requires whole_slot { length slot.now ≡ slot_bytes }
+    requires in_run_part { (from ≤ run_part) × (from % 4 ≡ run_part % 4) }
     ensures { result ≡ apart_from range (ranges_from slot.now from) }
 {
     let mut at = from;
