@@ -11,9 +11,8 @@ Each must-fail/FOLDER/NAME.edit has lines (others, as '# ..', are passed over):
     new: ..
     name: used-lt-4 used-le-4                  of a proof file: in each name there the part used-lt-4 becomes used-le-4
 
-A goal has the same name whether the check finds its proof or proofs/F/Answers.antt has it. Functions that call one another have their goals
-at the cycle's name, as `fn script::text::+put_decimal GOAL`. An edit that mixes types is refused before a proof is looked at. It has the
-compiler's words in the place of `fact:`:
+A goal has the same name whether the check finds its proof or proofs/F/Answers.antt has it; so has a lemma that stands in a function's own
+files there. An edit that mixes types is refused before a proof is looked at. It has the compiler's words in the place of `fact:`:
 
     type: expected `RamByte`, found `FlashWord`
 
@@ -44,8 +43,8 @@ ROOT = os.path.dirname(os.path.dirname(os.path.abspath(__file__)))
 PARTS = ("src", "specs", "proofs")
 SEED = os.path.join(ROOT, "target/must-fail")
 JOBS = int(os.environ.get("RT_JOBS", 0)) or len(os.sched_getaffinity(0))
-# what the checker says where a proof does not fit the code, and not that a fact is false,
-UNFIT = re.compile(r"has no (field|`)|not in scope|cannot be named")
+# what the checker says where a text cannot be read or a proof does not fit the code, and not that a fact is false,
+UNFIT = re.compile(r"has no (field|`)|not in scope|cannot be named|is no name|operand is missing|expected the end|cannot continue")
 # and of what only waits for another fact
 WAITS = re.compile(r"\d+ declarations? that depends? on .* (was|were) not checked\b|(in )?`[^`]+`:? `[^`]+` was not admitted|it calls .*, which (is|are) not proved")
 
@@ -198,7 +197,8 @@ def named(place, crate, name):
     owner, path = re.fullmatch(r"(?:\.\./(\w+)/|\./)?(.*)", place).groups()
     goal = re.fullmatch(r"proofs/(.+)/(?:Answers|Invariants|Proof)\.antt", path)
     owner = owner or crate
-    return f"{owner}: fn {owner}::{goal[1].replace('/', '::')} {name}" if goal else f"{owner}: {path} {name}"
+    # of one that calls itself they stand in +NAME
+    return f"{owner}: fn {owner}::{goal[1].replace('/', '::').replace('+', '')} {name}" if goal else f"{owner}: {path} {name}"
 
 
 def function_at(place, line, column, crate, folder):
