@@ -21,10 +21,9 @@ facts of that crate that are false, the named one among them: where a proof does
 was shown. Nor is it by an edit of a proof alone: one may stand beside an edit of code or specs, to fit it. So it must where a proof cites a
 name that the check made of the code that the edit changes, as it makes returns-then-used-lt-4 of `if used < 4 { return`.
 
-An edit takes seconds, not the minutes that a crate takes from nothing. The crate that must refuse it is checked with all crates below it
-as source, over a copy of an incremental folder, target/must-fail, in which the crates as they stand are proved first: so the checker takes
-from there all that the edit does not reach, in the crates between too. That folder begins with what `rt check` kept in the crates' out/,
-if there is something; else the crates are proved from nothing, once.
+An edit takes seconds. The crate that must refuse it is checked with all crates below it as source, over a copy of an incremental folder,
+target/must-fail, in which the crates as they stand are proved first: so the checker takes from there all that the edit does not reach, in the
+crates between, too. Where that folder is not there, as in a clean clone, the crates are proved from nothing, in a minute or two.
 
 --fit says only which edits do not fit the present texts, at once. --facts prints for each edit all facts at which it is refused. As many are
 tried at a time as there are processors, or as RT_JOBS says. The last line is 'must-fail: N passed, M failed'."""
@@ -159,11 +158,7 @@ def linked(kept, to):
 
 def prepare(crates):
     """Prove crates over the incremental folder; those of them that are proved, each with why it is not where it isn't."""
-    if not os.path.isdir(SEED):
-        os.makedirs(SEED)
-        for name in DEPS:
-            if os.path.isdir(os.path.join(ROOT, "crates", name, "out/incremental")):
-                linked(os.path.join(ROOT, "crates", name, "out/incremental"), SEED)
+    os.makedirs(SEED, exist_ok=True)
     said = {}
     # from the top down: where one is proved, so are those below it
     for crate in sorted(crates, key=lambda crate: (-len(below(crate)), crate)):
