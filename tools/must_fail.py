@@ -17,9 +17,10 @@ files there. An edit that mixes types is refused before a proof is looked at. It
     type: expected `RamByte`, found `FlashWord`
 
 An edit fails if its old text does not stand exactly once, if the crate is still proved, and if it is refused for any other reason than
-facts of that crate that are false, the named one among them: where a proof does not fit the code's steps, or a text cannot be read, nothing
-was shown. Nor is it by an edit of a proof alone: one may stand beside an edit of code or specs, to fit it. So it must where a proof cites a
-name that the check made of the code that the edit changes, as it makes returns-then-used-lt-4 of `if used < 4 { return`.
+facts of that crate, the named one among them: where a proof does not fit the code's steps, a text cannot be read, or the checker stopped at a
+limit of its own, nothing was shown. Nor is it by an edit of a proof alone: one may stand beside an edit of code or specs, to fit it. So it must
+where a proof cites a name that the check made of the code that the edit changes, as it makes returns-then-used-lt-4 of `if used < 4 { return`.
+That a fact is refused says that it is not proved any more; `fact:` names one that the edit makes false.
 
 An edit takes seconds. The crate that must refuse it is checked with all crates below it as source, over a copy of an incremental folder,
 target/must-fail, in which the crates as they stand are proved first: so the checker takes from there all that the edit does not reach, in the
@@ -42,8 +43,8 @@ ROOT = os.path.dirname(os.path.dirname(os.path.abspath(__file__)))
 PARTS = ("src", "specs", "proofs")
 SEED = os.path.join(ROOT, "target/must-fail")
 JOBS = int(os.environ.get("RT_JOBS", 0)) or len(os.sched_getaffinity(0))
-# what the checker says where a text cannot be read or a proof does not fit the code, and not that a fact is false,
-UNFIT = re.compile(r"has no (field|`)|not in scope|cannot be named|is no name|operand is missing|expected the end|cannot continue")
+# what the checker says where a text cannot be read, a proof does not fit the code or a check stopped short, and not that a fact is refused,
+UNFIT = re.compile(r"has no (field|`)|not in scope|cannot be named|is no name|operand is missing|expected the end|cannot continue|unclosed|antt ran out of|outgrew the memory|stopped at the step limit")
 # and of what only waits for another fact
 WAITS = re.compile(r"\d+ declarations? that depends? on .* (was|were) not checked\b|(in )?`[^`]+`:? `[^`]+` was not admitted|it calls .*, which (is|are) not proved")
 
@@ -70,8 +71,9 @@ class Edit:
                     self.pairs.append({"file": file, "old": rest, "new": None})
                 elif key == "new" and self.pairs:
                     self.pairs[-1]["new"] = rest
-                elif key == "name" and len(rest.split()) == 2:
-                    self.pairs.append(dict(zip(("file", "name", "new"), [file, *rest.split()])))
+                elif key == "name":
+                    part, new = rest.split()
+                    self.pairs.append({"file": file, "name": part, "new": new})
                 last = key if key in ("old", "new") else None
         if not self.crate or bool(self.fact) == bool(self.types) or not self.pairs:
             raise ValueError(f"{path} lacks a crate, a fact or a type, or a text to replace")
@@ -157,7 +159,7 @@ def linked(kept, to):
 
 
 def prepare(crates):
-    """Prove crates over the incremental folder; those of them that are proved, each with why it is not where it isn't."""
+    """Prove crates over the incremental folder; why each is not proved, or nothing."""
     os.makedirs(SEED, exist_ok=True)
     said = {}
     # from the top down: where one is proved, so are those below it
@@ -166,7 +168,7 @@ def prepare(crates):
             continue
         began = time.monotonic()
         status, text = rattle(crate, ROOT, SEED, JOBS)
-        said.update({crate: text if status else ""} if status else dict.fromkeys(below(crate), ""))
+        said.update({crate: text or f"exit {status}"} if status else dict.fromkeys(below(crate), ""))
         print(f"must-fail: incremental folder of {crate}{' FAILED' if status else ''} ({time.monotonic() - began:.0f} s)", flush=True)
     return said
 
@@ -198,7 +200,7 @@ def named(place, crate, name):
 
 def function_at(place, line, column, crate, folder):
     """The function that a place in a crate's code belongs to."""
-    owner, path = re.fullmatch(r"(?:\.\./(\w+)/|\./)?src/(.*)\.rt", place).groups()
+    owner, path = re.fullmatch(r"(?:\.\./(\w+)/|\./)?src/(\S+)\.rt", place).groups()
     owner = owner or crate
     with open(os.path.join(folder, "crates", owner, "src", f"{path}.rt"), encoding="utf-8") as source:
         text = source.read()
@@ -219,7 +221,7 @@ def facts(text, crate, folder):
             found.append(named(place, crate, name[1]))
         else:
             other.append(f"{place}: {what[:200]}")
-    for place, line, column, goal in re.findall(r"^note: (\S+?):(\d+):(\d+): it is not proved that .* \(`([^`]+)`\)", text, re.M):
+    for place, line, column, goal in re.findall(r"^note: (\S*\bsrc/\S+\.rt):(\d+):(\d+): it is not proved that .* \(`([^`]+)`\)", text, re.M):
         function = function_at(place, int(line), int(column), crate, folder)
         found.append(f"{function.partition('::')[0]}: fn {function} {goal}")
     for function, why in re.findall(r"^fn (\S+): no proof: (.*)$", text, re.M):

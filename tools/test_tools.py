@@ -698,6 +698,7 @@ class MustFail(unittest.TestCase):
         f"{ONE}:9:1: error: `returns`: `other` was not admitted (it was rejected)": "refused at no fact",
         f"{ONE}:3:5: error: `returns`: record `State` has no field `if-a-eq0`": "for another reason than a fact",
         f"{ONE}:3:5: error: `returns`: the two types differ\n{ONE}:4:5: error: expected a term": "for another reason than a fact",
+        f"{ONE}:3:5: error: `returns`: stopped at the step limit (1000000 steps)": "for another reason than a fact",
         f"{ONE}:3:5: error: `returns`: the two types differ\nfn one::nine: no proof: it calls `one::eight`, which is not proved": "",
         f"{ONE}:3:5: error: `returns`: the two types differ\nfn one::nine: no proof: expected invariants in there; it has a loop": "for another reason",
     }
