@@ -7,7 +7,7 @@ pub returns-then-n-lt10 : goal.returns-then-n-lt10
 returns-then-n-lt10 t c = rw (decimal_one c.args.n c.if-n-lt10.true) (wrote_byte _ _ _ (omega arith))
 
 pub bounds-out-last : goal.bounds-out-last
-bounds-out-last t c = omega (arith, decimal_short (c.args.n / 10) (omega arith))
+bounds-out-last t c = omega (arith, decimal_short)
 
 pub returns : goal.returns
 returns t c =
