@@ -3,8 +3,10 @@
 compiler's types can't see it.
 
 The compiler tells the three types apart. What it lets through, this searches for in crates/*/src:
-  - an address made from a number, as RamByte(n) or by a store to the number inside one (r.0 = n): only in crate address, and where
-    numbers come in from C;
+  - an address made from a number, as RamByte(n) or by a store to the number inside one (r.0 = n): only in rules, which declares From, and
+    in crate address;
+  - a conversion that can make one, as RamByte::from(n), n.into() or a bound From<u16>: only there and where numbers come in, from bytes, from
+    C and from a script; and of the number inside an address nowhere else than there;
   - a block number that leaves the map code: no crate above the map names one, nor does a public function of the map, in whatever
     number of lines its head stands;
   - the number inside an address handed as an offset: above(bot, site.0).
@@ -14,27 +16,33 @@ import os
 import re
 import sys
 
-MAKERS = ("address/src/lib.rt", "address/src/packing.rt", "rules/src/lib.rt", "hmt_c/src/operands.rt")
+MAKERS = ("address/src/", "rules/src/lib.rt")
+INLETS = (*MAKERS, "codec/src/lib.rt", "hmt_c/src/lib.rt", "script/src/operation.rt")  # where numbers come in
 OWNERS = ("rules/", "address/", "map/")  # crates that may name a block
 MADE = re.compile(r"\b(?:RamByte|FlashWord|Block)\(")
+CONVERTED = re.compile(r"\b(?:RamByte|FlashWord|From|Into)::(?:from|into)\b|\.into\(\)|\b(?:From<u16>|Into<)")
+FROM_ADDRESS = re.compile(r"\b(?:RamByte|FlashWord)::from\([^()]*\.0\b")
 STORED = re.compile(r"\.0\s*(?:[-+*/%&|^]|<<|>>)?=(?!=)")
-BLOCK = re.compile(r"\b(?:Block|Found|block_of|start_of|further|before|first_block|map_byte)\b")
+BLOCK = re.compile(r"\b(?:Block|block_of|start_of|further|before|first_block|map_byte)\b")
 PUBLIC = re.compile(r'^\s*pub\s+(?:const\s+)?(?:extern\s+"C"\s+)?fn\s[^{]*', re.M)
 # what only the checker reads, up to the bracket that it opens
-GHOST = re.compile(r"\bghost\s+use\b[^;{]*(\{)|\b(?:requires|ensures)(?:\s+\w+)?\s*(\{)|#!?(\[)")
+GHOST = re.compile(r"\bghost\s+(?:use\b[^;{]*|\w+\s*[:=]\s*)(\{)|\b(?:requires|ensures)(?:\s+\w+)?\s*(\{)|#!?(\[)")
 OFFSET = re.compile(r"\b(?:above|below|further|before)\((?:[^(),]|\([^()]*\))*,\s*[\w.]+\.0\s*\)")
 
 
 def places(name, text):
     """Each place of a source that mixes, by its offset, with what is wrong."""
-    if name not in MAKERS:
+    if not name.startswith(MAKERS):
         yield from ((m.start(), "an address is made from a number") for m in MADE.finditer(text))
         yield from ((m.start(), "the number inside an address is stored to") for m in STORED.finditer(text))
+        yield from ((m.start(), "an address is made from the number inside another") for m in FROM_ADDRESS.finditer(text))
+    if not name.startswith(INLETS):
+        yield from ((m.start(), "a conversion that can make an address") for m in CONVERTED.finditer(text))
     if not name.startswith(OWNERS):
         yield from ((m.start(), "a block number outside the map code") for m in BLOCK.finditer(text))
     if name.startswith("map/"):
         for head in PUBLIC.finditer(text):
-            if re.search(r"\b(?:Block|Found)\b", head.group(0)):
+            if re.search(r"\bBlock\b", head.group(0)):
                 yield head.start(), "a public function of the map names a block"
     yield from ((m.start(), "the number inside an address is handed as an offset") for m in OFFSET.finditer(text))
 

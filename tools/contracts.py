@@ -4,22 +4,30 @@ section 10).
 
 `uniqueness` of crates/promises proves, for each function by name, that no two results meet its contract. What ties those theorems to the
 contracts that are really written is this test: the checker does not compare the two. It reads each crate's sources and, for each public
-function NAME, the field only_NAME of the record Uniqueness, which has the form
+function NAME, the field only_CRATE_NAME of the record Uniqueness or, where there is none, only_NAME, which has the form
 
     (the parameters) → Only (λ r x'. what the function ensures)
 
 and passes the function if
-  - the field is about every parameter, each of its type (numbers as ℕ, slices as List ℕ);
-  - behind λ stand the result, if it has one, and every place lent with &mut, and nothing else: so nothing is left open;
+  - the field is about every parameter, each of its type (numbers as ℕ, slices and arrays as List ℕ);
+  - behind λ stand the result, if it has one, with its type or without, and every place lent with &mut, and nothing else: so nothing is left
+    open;
   - what follows is its `ensures` word for word, with x for `x.now` and `x.old`, x' for `x.new` and the name behind λ for `result`; of several
     clauses, all of them, joined by ×;
   - each name in it, word or operator, is taken from where the source takes it, and so is each type. A word of the crate's own, which
     promises cannot cite, is a parameter of the field, of the type that its definition in the crate's specs has (so the theorem holds
     whatever it means), or written out as that definition says.
 
+A function of an impl block is TYPE_NAME. One of a trait's impl ensures what its ghost member NAME_gives says of its parameters and its
+result; what is derived needs no field. A struct with a proof beside what it holds (`GoodState { state, ghost good }`) stands in the specs as a
+record that says the same: where such a `good` is handed over, the field is about any `state`, for which the clauses say `good.state`. Of a
+closure `f: F` the field is about what it may give, for which the clauses say `F.post f`. A generic function has a field for each type of the
+table INSTANCES, where its contract says what that type's impl does. Before Only may stand a premise, which is one of the function's
+`requires`. A field whose function went stands in the table GONE, which says what gives its number now.
+
 A use line that renames a name or brings a whole module is not followed, and fails what it stands above. Functions of one name share the
-field, and each is held to it. A function is public if its file is open from the crate's root on. One with a `requires` is named as such:
-only proved code calls it.
+field, and each is held to it. A function is public if its file is open from the crate's root on, or its type is declared in one that is. One
+with a `requires` is named as such: only proved code calls it.
 
   python3 tools/contracts.py [ROOT]         ROOT is a folder with crates/ in it; else the repository
 
@@ -34,10 +42,23 @@ OPEN, CLOSE = "([{", ")]}"
 WORD = r"[^\W\d][\w']*"
 NAME = r"""[^\s(){}.;,@"«»]+"""  # a name of the specs' language, word or operator
 GHOST_USE = r"\bghost\s+use\s+([^;]*);"  # in a source: only these speak of contracts
+GROUP = r"\((?:[^()]|\([^()]*\))*\)"  # brackets, perhaps with brackets in them
 SPEC_USE = r"^\s*(?:pub\s+)?use\s+([^{\n]*(?:\{[^}]*\})?[^\n]*)"
-BUILT_IN = {"×", "→", ":", "λ"}  # its own, which no use line brings
+BUILT_IN = {"×", "→", ":", "λ", "Type"}  # its own, which no use line brings
 PRELUDE = "Rattle.std.specs.Prelude"
-TYPES = {"ℕ": PRELUDE, "List": PRELUDE, "Bool": PRELUDE}  # what in_antt writes
+# what in_antt writes, and a name that the rules give to one of these
+TYPES = {word: PRELUDE for word in ("ℕ", "List", "Bool", "Option", "Result")} | {"Answer": "Rattle.rules.specs.Answers"}
+# the field of a generic function, for each type that stands for its parameter
+INSTANCES = {"codec::word_at": {"u16": "word_at", "rules::RamByte": "ram_byte_at", "rules::FlashWord": "flash_word_at"}}
+# what the impl of a type of std says, as for those of the crates: the names of its parameters and its result, the text, and what brings its words
+SAYS = {("From<u16>", "u16", "from_gives"): (["n", "r"], "r ≡ n", "ghost use Rattle.std.specs.Prelude.{◌≡◌};")}
+# fields of functions that went, and what gives the same now
+GONE = {"joined": "u16::from_le_bytes", "byte_of": "RamByte::from(u16::from_le_bytes(..))", "word_of": "FlashWord::from(u16::from_le_bytes(..))",
+        "low": "the first byte of u16::to_le_bytes", "high": "the second byte of u16::to_le_bytes",
+        "zero_byte": "RamByte::default", "zero_word": "FlashWord::default"}
+
+# fields about an outcome, beside those about what the functions of that name hand back, which `moved` makes an outcome of
+AS_OUTCOMES = ("call_with", "ret_with")
 
 
 def read(path, comment):
@@ -46,18 +67,18 @@ def read(path, comment):
         return re.sub(comment + r"[^\n]*", "", source.read())
 
 
-def open_files(folder, name, outer=()):
-    """The files of a crate that can be reached from outside: its root and the `pub mod`s below it, with their paths of names."""
+def files(folder, name, outer=(), opened=True):
+    """The files of a crate from its root on, with their paths of names, and whether they can be reached from outside, by `pub mod`s alone."""
     path = os.path.join(folder, *outer, name + ".rt")
     if not os.path.exists(path):
         return
     inner = outer if name in ("lib", "main") else outer + (name,)
     text = read(path, "//")
-    if re.search(r"^\s*pub\s+use\b", text, re.M):
-        raise ValueError(f"{path} passes names on, which this test does not follow")
-    yield text, inner
-    for module in re.findall(r"^\s*pub\s+mod\s+(\w+)\s*;", text, re.M):
-        yield from open_files(folder, module, inner)
+    if unknown := re.search(r"^\s*pub\s+(use|trait)\b", text, re.M):
+        raise ValueError(f"{path} has a `pub {unknown.group(1)}`, which this test does not follow")
+    yield text, inner, opened
+    for public, module in re.findall(r"^\s*(pub\s+)?mod\s+(\w+)\s*;", text, re.M):
+        yield from files(folder, module, inner, opened and bool(public))
 
 
 def closing(text, at):
@@ -127,28 +148,44 @@ def origin(name, brought):
     return {(whole, module) for whole, module in brought if name == whole or "◌" in whole and name in whole.split("◌")}
 
 
-def in_antt(kind):
-    """A type of the source as the specs write it."""
+def in_antt(kind, arrays):
+    """A type of the source as the specs write it; some names stand for arrays."""
     kind = re.sub(r"^&\s*(mut\s+)?", "", kind.strip())
-    if kind.startswith("["):
-        return "List ℕ"
-    return "ℕ" if re.fullmatch(r"u\d+|usize", kind) else {"bool": "Bool"}.get(kind, kind)
+    if of := re.fullmatch(r"(\w*)<(.*)>", re.sub(r"^\[([^\[;]*).*\]$", r"<\1>", arrays.get(kind, kind))):
+        parts = [in_antt(part, arrays) for part in split(of.group(2), ",")]
+        return " ".join([of.group(1) or "List", *(f"({part})" if " " in part else part for part in parts)])
+    return "ℕ" if re.fullmatch(r"u\d+|usize", kind) else {"bool": "Bool", "()": "⊤"}.get(kind, kind)
 
 
 class Function:
-    """A public function: its name, its parameters with their types, the places that it is lent, whether it hands something back, and its
-    clauses."""
+    """A public function: its name, the type that it belongs to, its type parameters but for closures, its parameters with their types, the type
+    that it hands back, and its clauses. Some types hold a value with a proof about it, and some are names of arrays."""
 
-    def __init__(self, name, given, hands, clauses):
-        self.name, self.hands = name, hands
-        self.given = {name: in_antt(kind) for name, kind in given}
+    def __init__(self, name, of, generic, given, hands, clauses, holds, arrays):
+        self.name, self.path = (f"{of}_{name}", f"{of}::{name}") if of else (name, name)
+        self.of, bounds = of, split(generic or "", ",")
+        gives = {kind: [in_antt(part, arrays) for part in (*split(takes, ","), back)] for bound in bounds
+                 for kind, takes, back in re.findall(r"^(\w+): Fn\(([^()]*)\) -> (\w+)$", bound)}
+        self.generic = ", ".join(bound for bound in bounds if bound.split(":")[0] not in gives)
+        self.held = {name: holds[kind] for name, kind in given if kind in holds}
+        self.closures = {name: f"{kind}.post {name}" for name, kind in given if kind in gives}
+        given = [self.held.get(name, (name, kind)) for name, kind in given]
+        self.given = {name: " → ".join([*gives[kind], "Type 0"]) if kind in gives else in_antt(kind, arrays) for name, kind in given}
+        self.hands = in_antt(hands, arrays) if hands else None
         self.lent = [name for name, kind in given if re.match(r"&\s*mut\b", kind)]
         self.shown = [name for name, kind in given if kind.startswith("&") and name not in self.lent]
         self.ensures = [text for kind, text in clauses if kind == "ensures"]
-        self.has_requires = any(kind == "requires" for kind, _ in clauses)
+        self.requires = [text for kind, text in clauses if kind == "requires"]
+        self.mixed = len(self.given) < len(given)
 
     def as_field(self, text, result):
         """A clause as a field writes it, where the field calls the result by this name."""
+        for name, (part, _) in self.held.items():
+            text = re.sub(rf"(?<![\w'.]){name}\.{part}(?![\w'])", part, text)
+            if re.search(rf"(?<![\w'.]){name}(?![\w'])", text):
+                raise ValueError(f"a clause names `{name}` for more than its {part}: {text}")
+        for name, post in self.closures.items():
+            text = re.sub(rf"\({re.escape(post)}\)|(?<![\w'.]){re.escape(post)}(?![\w'])", name, text)
         new = {f"{name}.{when}": name + "'" * (when == "new") for names, whens in ((self.shown, ("now",)), (self.lent, ("old", "new")))
                for name in names for when in whens}
         taken = {*self.given, "result", *result.split(), *(name + "'" for name in self.lent)}
@@ -161,17 +198,36 @@ class Function:
         return re.sub(r"(?<![\w'.])result(?![\w'])", result or "result", text.replace("@", ""))
 
 
-def functions(text):
-    """The public functions of a source."""
-    for head in re.finditer(r'^\s*pub\s+(?:const\s+)?(?:extern\s+"C"\s+)?fn\s+(\w+)\s*', text, re.M):
+def blocks(text):
+    """The impl blocks of a source: where each begins and ends, its trait, if it has one, and its type."""
+    for head in re.finditer(r"^\s*impl\b([^{;]*)(?=\{)", text, re.M):
+        trait, _, of = head.group(1).rpartition(" for ")
+        yield head.end(), closing(text, head.end()), trait.strip(), of.strip()
+
+
+def members(text):
+    """What the ghost members of a source's impl blocks say: each by its trait, type and name, with the names that it gives its parameters."""
+    return {(trait, of, name): (names.split(), said) for start, end, trait, of in blocks(text)
+            for name, names, said in re.findall(r"\bghost (\w+) = \{ λ ([^.]*)\. (.*?) \};", " ".join(text[start:end].split()))}
+
+
+def functions(text, holds, arrays):
+    """The public functions of a source: those so called, and those of a trait's impl."""
+    own = list(blocks(text))
+    for head in re.finditer(r'^\s*(pub\s+)?(?:const\s+)?(?:extern\s+"C"\s+)?fn\s+(\w+)\s*(?:<((?:->|[^<>]|<[^<>]*>)*)>\s*)?', text, re.M):
+        name = head.group(2)
+        trait, of = next(((trait, of) for start, end, trait, of in own if start < head.start() < end), ("", ""))
+        if not head.group(1) and not trait:
+            continue
         if text[head.end()] != "(":
-            raise ValueError(f"{head.group(1)}: its head cannot be read")
+            raise ValueError(f"{name}: its head cannot be read")
         end = closing(text, head.end())
         # a parameter that the body alters (`mut`) is in the contract what was handed over
-        given = [[part.strip() for part in re.sub(r"^\s*mut\s+", "", p).split(":", 1)] for p in split(text[head.end() + 1 : end], ",")]
-        rest = re.match(r"\s*(->\s*(?:[^{;\[]|\[[^\]]*\])*?)?\s*(?=(?:requires|ensures)\b|\{)", text[end + 1 :])
+        given = [re.sub(r"^\s*mut\s+", "", p) for p in split(text[head.end() + 1 : end], ",")]
+        given = [[part.strip() for part in re.sub(r"^(&\s*(?:mut\s+)?)?self$", rf"self: \1{of}", p).split(":", 1)] for p in given]
+        rest = re.match(r"\s*(?:->\s*((?:[^{;\[]|\[[^\]]*\])*?))?\s*(?=(?:requires|ensures)\b|\{)", text[end + 1 :])
         if not rest or not all(len(parts) == 2 for parts in given):
-            raise ValueError(f"{head.group(1)}: its head cannot be read")
+            raise ValueError(f"{name}: its head cannot be read")
         at, clauses = end + 1 + rest.end(), []
         while clause := re.match(r"\s*(requires|ensures)(?:\s+\w+)?\s*(?=\{)", text[at:]):
             first = at + clause.end()
@@ -179,22 +235,30 @@ def functions(text):
             clauses.append((clause.group(1), " ".join(text[first + 1 : last].split())))
             at = last + 1
         if not re.match(r"\s*\{", text[at:]):
-            raise ValueError(f"{head.group(1)}: its clauses cannot be read")
-        yield Function(head.group(1), given, rest.group(1) is not None, clauses)
+            raise ValueError(f"{name}: its clauses cannot be read")
+        if said := members(text).get((trait, of, f"{name}_gives")):
+            (*names, result), body = said
+            if len(names) != len(given):
+                raise ValueError(f"{of}::{name}: its ghost member has other parameters")
+            given = [[called, kind] for called, (_, kind) in zip(names, given)]
+            clauses.append(("ensures", re.sub(rf"(?<![\w'.]){result}(?![\w'])", "result", body)))
+        yield Function(name, of, head.group(3), given, rest.group(1), clauses, holds, arrays)
 
 
 def fields(text):
-    """Each field of the record: what it is about, by its type, the names behind λ, and what follows."""
+    """Each field of the record: what it is about, by its type, its premise, the names behind λ, the type if one has it, and what follows."""
     body = text[text.index("pub record Uniqueness") :]
     found = {}
     for part in re.split(r"^  pub ", body, flags=re.M)[1:]:
-        field = re.fullmatch(r"only_(\w+) : ((?:\([^()]*\) )*)(?:→ )?Only\d? \(λ ([^.]*)\. (.*)\)", " ".join(part.split()))
+        field = re.fullmatch(rf"only_(\w+) : ((?:{GROUP} )*)(?:→ )?(?:({GROUP}) → )?Only\d? \(λ ({GROUP}|[^.()]*)\. (.*)\)", " ".join(part.split()))
         if field:
+            name, groups, premise, behind, statement = field.groups()
             about = {}
-            for group in re.findall(r"\(([^()]*)\)", field.group(2)):
-                names, _, kind = group.partition(" : ")
+            for group in re.findall(GROUP, groups):
+                names, _, kind = group[1:-1].partition(" : ")
                 about.update({name: kind for name in names.split()})
-            found[field.group(1)] = about, field.group(3).split(), field.group(4)
+            results, _, kind = behind.strip("()").partition(" : ")
+            found[name] = about, (premise or "")[1:-1], results.split(), kind, statement
     return found
 
 
@@ -205,22 +269,26 @@ def own_specs(root, crate, word, brought):
     return read(os.path.join(root, "crates", crate, "specs", own.group(1) + ".antt"), "--") if own else ""
 
 
-def written_out(text, variables, specs, brought):
-    """A clause whose first word is the crate's own: as its definition in the specs says. With it, which names are taken by whom."""
-    word = text.split(" ")[0]
+def definition(word, specs):
+    """What a word is defined as in a text of specs: the names of its parameters, the text, and what its file brings; None if it is not there."""
     meant = re.search(rf"^abbrev pub {re.escape(word)} : .*\n{re.escape(word)} ([^=]*) =\s+(.*(?:\n[ \t]+.*)*)$", specs, re.M)
+    return (meant.group(1).split(), " ".join(meant.group(2).split()), uses(specs, SPEC_USE)) if meant else None
+
+
+def written_out(text, variables, meant, brought):
+    """A clause whose first word has a definition: as that says. With it, which names are taken by whom."""
     if not meant:
         return text, [(names_in(text, variables | bound_in(text)), brought)]
-    handed, said = split(text, " ")[1:], " ".join(meant.group(2).split())
-    put = dict(zip(meant.group(1).split(), handed))
+    handed, (names, said, theirs) = split(text, " ")[1:], meant
+    put = dict(zip(names, handed))
     if bound_in(said) & set(re.findall(WORD, " ".join(handed))):
-        raise ValueError(f"the definition of `{word}` binds a name that it is handed")
+        raise ValueError(f"the definition of `{text.split(' ')[0]}` binds a name that it is handed")
     body = re.sub(rf"(?<![\w'.]){WORD}", lambda name: put.get(name.group(0), name.group(0)), said)
-    return body, [(names_in(said, set(put) | bound_in(said)), uses(specs, SPEC_USE)), (names_in(" ".join(handed), variables | bound_in(text)), brought)]
+    return body, [(names_in(said, set(put) | bound_in(said)), theirs), (names_in(" ".join(handed), variables | bound_in(text)), brought)]
 
 
 def imports(word, source):
-    """The crates from which a source's plain `use` lines bring a type under its own name."""
+    """The crates from which a source's plain `use` lines bring a type under its own name; `crate` is the source's own."""
     found = []
     for item in re.findall(r"^\s*use\s+([^;]+);", source, re.M):
         plain = re.fullmatch(r"(\w+)::(?:(\w+)|\{([^{}]*)\})", " ".join(item.split()))
@@ -229,72 +297,156 @@ def imports(word, source):
     return found
 
 
-def judge(root, crate, source, function, field, taken):
-    """Raise ValueError with what is wrong."""
+def home(word, crate, source):
+    """The crate that a type of a source is from: its own, if no plain `use` line brings the name."""
+    brought = set(imports(word, source)) - {"crate"} or {crate}
+    return brought.pop() if len(brought) == 1 else ""
+
+
+def same_types(kinds, source, taken, holds):
+    """Raise ValueError if a word of some types is from another place in the specs than in the source; a record beside them is the type itself."""
+    for word in {word for kind in kinds for word in re.findall(WORD, kind)} - BUILT_IN:
+        meant = set() if word in holds else {(word, TYPES.get(word) or f"Rattle.{''.join(imports(word, source))}.specs.declared.{word}")}
+        if origin(word, taken) != meant:
+            raise ValueError(f"the type `{word}` is from another place in its field")
+
+
+def same_names(used, brought, taken):
+    """Raise ValueError if one of the names that are used is from another place in the specs than in what brings it."""
+    for word in used:
+        ours, theirs = origin(word, brought), origin(word, taken)
+        if ours != theirs or not ours and word not in BUILT_IN:
+            told = [", ".join(sorted(module for _, module in places)) or "nowhere" for places in (ours, theirs)]
+            raise ValueError(f"`{word}` is from {told[0]}, and in its field from {told[1]}")
+
+
+def own_word(word, about, specs):
+    """Whether a parameter of a field is a word of the crate's specs of that type, with some type for each that the field is about."""
+    some = []
+
+    def part(name):
+        name = name.group(0)
+        if about.get(name) != "Type 0":
+            return re.escape(name)
+        some.append(name)
+        return f"(?P={name})" if name in some[:-1] else f"(?P<{name}>[^→\\n]+)"
+
+    return re.search(rf"\b{word} : {re.sub(rf'{WORD}|.', part, about[word])}$", specs, re.M)
+
+
+def judge(root, crate, source, function, field, taken, holds, says):
+    """Raise ValueError with what is wrong; a generic function is judged for a type of which it is known what its impl says."""
     given, lent = function.given, function.lent
     if not function.ensures:
         raise ValueError("it has no contract")
+    if function.generic and not says:
+        raise ValueError("it is generic, and the table INSTANCES has no type for it")
     if field is None:
         raise ValueError(f"{FIELDS} has no field of its name")
-    about, results, statement = field
+    about, premise, results, kind, statement = field
     places = [place + "'" for place in lent]
     named = [name for name in results if name not in places]
-    if len(named) != function.hands or sorted(results) != sorted(named + places) or set(results) & set(given):
-        raise ValueError(f"its field is about {', '.join(results)}, and it leaves {', '.join(['its result'] * function.hands + places)}")
-    if any(about.get(x) != kind for x, kind in given.items()):
-        raise ValueError("its field is about other parameters")
+    if len(named) != bool(function.hands) or sorted(results) != sorted(named + places) or set(results) & set(given):
+        raise ValueError(f"its field is about {', '.join(results)}, and it leaves {', '.join(['its result'] * bool(function.hands) + places)}")
+    if function.mixed or any(about.get(x) != kind for x, kind in given.items()) or kind not in ("", function.hands):
+        raise ValueError("its field is about other parameters, or another result")
     here, ensured, names = uses(source, GHOST_USE), [], []
     variables = {*about, *results}
     for clause in function.ensures:
         text = function.as_field(clause, "".join(named))
         first = text.split(" ")[0]
-        text, of_text = written_out(text, variables, "" if origin(first, taken) else own_specs(root, crate, first, here), here)
-        ensured += conjuncts(text)
+        meant = None if origin(first, taken) else definition(first, own_specs(root, crate, first, here))
+        if first in says:
+            parameters, said, brings = says[first]
+            meant = parameters, said, uses(brings, GHOST_USE)
+        text, of_text = written_out(text, variables, meant, here)
+        ensured += conjuncts(re.sub(r"≡ \(([^()]*)\)$", r"≡ \1", text) if first in says else text)
         names += of_text
+    if premise:
+        if premise not in [function.as_field(clause, "".join(named)) for clause in function.requires]:
+            raise ValueError(f"its field has a premise that is none of its `requires`: {premise}")
+        names.append((names_in(premise, variables | bound_in(premise)), here))
     if conjuncts(statement) != ensured:
         raise ValueError(f"its field says\n    {statement}\nand it ensures\n    {' × '.join(ensured)}")
-    for word in {word for kind in given.values() for word in kind.split()}:
-        if origin(word, taken) != {(word, TYPES.get(word) or f"Rattle.{''.join(imports(word, source))}.specs.declared.{word}")}:
-            raise ValueError(f"the type `{word}` is from another place in its field")
+    same_types([kind, *(kind for part, kind in given.items() if (part, kind) not in function.held.values())], source, taken, holds)
     for word in set(about) - set(given):
-        if about[word] != "Type 0" and not re.search(rf"\b{word} : {re.escape(about[word])}$", own_specs(root, crate, word, here), re.M):
+        if about[word] != "Type 0" and not own_word(word, about, own_specs(root, crate, word, here)):
             raise ValueError(f"`{word}`, a parameter of its field, is none of its own and no word of the crate's specs with that type")
     for used, brought in names:
-        for word in used:
-            ours, theirs = origin(word, brought), origin(word, taken)
-            if ours != theirs or not ours and word not in BUILT_IN:
-                told = [", ".join(sorted(module for _, module in places)) or "nowhere" for places in (ours, theirs)]
-                raise ValueError(f"`{word}` is from {told[0]}, and in its field from {told[1]}")
+        same_names(used, brought, taken)
+
+
+def holders(text):
+    """The structs of a source with a ghost field: each with its fields, as a record of the specs writes them."""
+    for head in re.finditer(r"^pub struct (\w+) (?=\{)", text, re.M):
+        body = " ".join(text[head.end() + 1 : closing(text, head.end())].split())
+        parts = [re.fullmatch(r"(?:pub )?(ghost )?(\w+): (.*)", part) for part in split(body, ",")]
+        if re.search(r"\bghost\b", body) and all(parts):
+            yield head.group(1), [(part.group(2), part.group(3).strip("{} ") if part.group(1) else in_antt(part.group(3), {})) for part in parts]
+
+
+def same_record(source, struct, record, taken):
+    """Raise ValueError if a record of the specs says something else than a struct of a source, which holds a value and a proof about it."""
+    if struct != record or len(struct) != 2:
+        raise ValueError(f"{FIELDS} has no record that says the same: {struct}")
+    (part, kind), (_, proof) = struct
+    same_types([kind], source, taken, {})
+    same_names(names_in(proof, {part}), uses(source, GHOST_USE), taken)
 
 
 def main(root):
     spec = read(os.path.join(root, FIELDS), "--")
     stated, taken = fields(spec), uses(spec, SPEC_USE)
-    passed, failed, leaves, seen = 0, 0, [], set()
+    records = {name: [tuple(line.split(" : ", 1)) for line in re.findall(r"  pub (.*)", lines)]
+               for name, lines in re.findall(r"^pub record (\w+) : Type 0 where\n((?:  pub .*\n)+)", spec, re.M)}
     crates = os.path.join(root, "crates")
-    for crate in sorted(os.listdir(crates)):
-        for first in ("lib", "main"):
-            for source, inner in open_files(os.path.join(crates, crate, "src"), first):
-                for function in functions(source):
-                    full = "::".join((crate, *inner, function.name))
-                    try:
-                        seen.add(function.name)
-                        judge(root, crate, source, function, stated.get(function.name), taken)
-                        print(f"contract {full}: unique")
-                        passed += 1
-                    except ValueError as wrong:
-                        print(f"contract {full}: FAILED: {wrong}")
-                        failed += 1
-                    if function.has_requires:
-                        leaves.append(full)
-    for name in sorted(set(stated) - seen - {"gives", "gives_to_c"}):
-        print(f"FAILED: {FIELDS} has a field only_{name}, and no public function has that name")
-        failed += 1
+    found = [(crate, *file) for crate in sorted(os.listdir(crates)) for first in ("lib", "main")
+             for file in files(os.path.join(crates, crate, "src"), first)]
+    says, held, arrays, public, judged, leaves, seen = dict(SAYS), {}, {}, set(), [], [], set()
+
+    def tried(full, good, test, *words):
+        try:
+            test(*words)
+            judged.append(True)
+        except ValueError as wrong:
+            judged.append(False)
+            good = f"FAILED: {wrong}"
+        print(f"contract {full}: {good}")
+
+    for crate, source, _, opened in found:
+        says |= {(trait, f"{crate}::{of}", name): (*said, source) for (trait, of, name), said in members(source).items()}
+        arrays |= {(crate, name): kind for name, kind in re.findall(r"^(?:pub )?type (\w+) = (\[[^\]]*\]);", source, re.M)}
+        if opened:
+            public |= {(crate, name) for name in re.findall(r"^pub (?:struct|enum) (\w+)", source, re.M)}
+            for name, struct in holders(source):
+                tried(f"{crate}::{name}", "its record says the same", same_record, source, struct, records.pop(name, None), taken)
+                held[crate, name] = struct[0]
+    for crate, source, inner, opened in found:
+        holds, named = ({name: what for (of, name), what in table.items() if home(name, crate, source) == of} for table in (held, arrays))
+        for function in functions(source, holds, named):
+            full = "::".join((crate, *inner, function.path))
+            if not opened and (crate, function.of) not in public:
+                continue
+            for kind, name in (INSTANCES.get(full) or {"": function.name}).items():
+                name = f"{crate}_{name}" if f"{crate}_{name}" in stated else name
+                seen.add(name)
+                letter, _, bound = (function.generic or "").partition(": ")
+                of_kind = {f"{letter}.{member}": what for (trait, of, member), what in says.items() if (trait, of) == (bound, kind)}
+                tried(f"{full}{kind and f' for {kind}'}", "unique", judge, root, crate, source, function, stated.get(name), taken, holds, of_kind)
+            if function.requires:
+                leaves.append(full)
+    wrong = [f"a record {name}, and no public struct says the same" for name in records]
+    wrong += [f"a field only_{name}, and no public function has that name" for name in sorted(set(stated) - seen - set(GONE) - set(AS_OUTCOMES) - {"gives", "gives_to_c"})]
+    wrong += [f"no field only_{name}" for name in GONE if name not in stated]
+    wrong += [f"only_{name}, and a public function that went has that name" for name in GONE if name in seen]
+    print("\n".join(f"gone: only_{name}: {gives}" for name, gives in GONE.items()))
+    print("".join(f"FAILED: {FIELDS} has {what}\n" for what in wrong), end="")
     print("with a requires, called by proved code alone: " + (", ".join(leaves) or "none"))
     if not seen:
+        wrong.append("nothing to be judged")
         print("FAILED: no public function is found")
-        failed += 1
-    print(f"contracts: {passed} passed, {failed} failed")
+    failed = judged.count(False) + len(wrong)
+    print(f"contracts: {len(judged) - judged.count(False)} passed, {failed} failed")
     return 0 if failed == 0 else 1
 
 

@@ -20,6 +20,7 @@ sys.dont_write_bytecode = True
 ROOT = Path(__file__).resolve().parent.parent
 sys.path.insert(0, str(ROOT / "tools"))
 
+import contracts
 import hmtscript
 import must_fail
 import replay
@@ -447,8 +448,9 @@ class Tools(unittest.TestCase):
 
     # ---- contracts ----
 
-    def contracts(self, *changes):
-        """What tools/contracts.py says of a made-up crate, after some texts in its files were put in the place of others."""
+    def contracts(self, *changes, **more):
+        """What tools/contracts.py says of a made-up crate, with more files or others in the place of some, after some texts in them were put in
+        the place of others."""
         files = {
             "crates/promises/specs/Uniqueness.antt": """
 use Rattle.std.specs.Prelude.{ℕ, ◌+◌, ◌<◌, ◌≡◌, List, length}
@@ -507,6 +509,8 @@ pub extern "C" fn clear(out: &mut [u8])
 { }
 """,
         }
+        files |= more
+        files["crates/promises/specs/Uniqueness.antt"] += "".join(f"  pub only_{name} : Only (λ r. r ≡ 0)\n" for name in contracts.GONE)
         for name, old, new in changes:
             name = next(path for path in files if path.endswith(name))
             self.assertIn(old, files[name])
@@ -583,13 +587,176 @@ pub extern "C" fn clear(out: &mut [u8])
         self.assertIn("◌≢◌ as ◌≡◌, List, length}` renames", page)
         self.assertTrue(page.endswith("contracts: 0 passed, 1 failed\n"), page)
 
+    # Crates with a type that holds a state and a proof about it, with impls of From and TryFrom, a generic function, one with a closure and a
+    # name for an array; and two functions of one name, of which one has a field of its own.
+    TYPES = {
+        "crates/promises/specs/Uniqueness.antt": """
+use Rattle.std.specs.Prelude.{ℕ, ◌≡◌, true, false, List, Result, MatchResult}
+use Rattle.rules.specs.declared.State.{State}
+use Rattle.rules.specs.declared.Refusal.{Refusal}
+use Rattle.rules.specs.State.{good_state, ram_byte, flash_word, word_at, sum}
+
+pub record GoodState : Type 0 where
+  pub state : State
+  pub good : good_state state ≡ true
+
+pub record Uniqueness : Type 1 where
+  pub only_RamByte_from : (n : ℕ) → Only (λ r. r ≡ ram_byte n)
+  pub only_FlashWord_from : (n : ℕ) → Only (λ r. r ≡ flash_word n)
+  pub only_word_at : (bytes : List ℕ) (at : ℕ) → Only (λ r. r ≡ word_at bytes at)
+  pub only_ram_byte_at : (bytes : List ℕ) (at : ℕ) → Only (λ r. r ≡ ram_byte (word_at bytes at))
+  pub only_flash_word_at : (bytes : List ℕ) (at : ℕ) → Only (λ r. r ≡ flash_word (word_at bytes at))
+  pub only_GoodState_try_from : (s : State)
+      → Only (λ (r : Result GoodState Refusal). MatchResult r (λ good. good.state ≡ s) (λ e. good_state s ≡ false))
+  pub only_GoodState_held : (state : State) → Only (λ r. r ≡ state)
+  pub only_most : (n : ℕ) → Only (λ r. r ≡ n)
+  pub only_thing_most : (state : State) (line : List ℕ) → Only2 (λ r line'. (r ≡ sum line) × (line' ≡ state.line))
+  pub only_hold : (Gives : (State → ℕ → Type 0) → ℕ → Type 0) (state : State) (ask : State → ℕ → Type 0)
+      → ((n : ℕ) × Gives ask n)
+      → Only (λ r. (n : ℕ) → Gives ask n → r ≡ n)
+  pub only_find : (Place : Type 0) (found : State → List ℕ → Place) (state : State) (line : List ℕ) → Only (λ r. r ≡ found state line)
+""",
+        "crates/rules/src/lib.rt": """
+pub type Line = [u8; 12];
+
+impl From<u16> for RamByte {
+    ghost use Rattle.std.specs.Prelude.{◌≡◌};
+    ghost use Rattle.rules.specs.State.{ram_byte};
+
+    ghost from_gives = { λ n r. r ≡ ram_byte n };
+
+    fn from(n: u16) -> RamByte {
+        RamByte(n)
+    }
+}
+
+impl From<u16> for FlashWord {
+    ghost use Rattle.rules.specs.State.{flash_word};
+
+    ghost from_gives = { λ n r. r ≡ flash_word n };
+
+    fn from(n: u16) -> FlashWord {
+        FlashWord(n)
+    }
+}
+""",
+        "crates/codec/src/lib.rt": """
+ghost use Rattle.rules.specs.State.{word_at};
+
+pub fn word_at<W: From<u16>>(bytes: &[u8], at: usize) -> W
+    ensures { W.from_gives (word_at bytes.now at) result }
+{ }
+""",
+        "crates/good/src/lib.rt": """
+ghost use Rattle.std.specs.Prelude.{◌≡◌, true, false, MatchResult};
+ghost use Rattle.rules.specs.State.{good_state};
+
+mod inner;
+
+use rules::{Refusal, State};
+
+pub struct GoodState {
+    pub state: State,
+    pub ghost good: { good_state state ≡ true },
+}
+
+impl TryFrom<State> for GoodState {
+    type Error = Refusal;
+
+    ghost try_from_gives = { λ s r. MatchResult r (λ good. good.state ≡ s)
+        (λ e. good_state s ≡ false) };
+
+    fn try_from(state: State) -> Result<GoodState, Refusal> {
+        Ok(GoodState { state })
+    }
+}
+
+impl GoodState {
+    pub fn held(self) -> State
+        ensures { result ≡ self.state }
+    {
+        self.state
+    }
+}
+""",
+        "crates/good/src/inner.rt": "struct Inner(u8);\n\nimpl From<u8> for Inner {\n    fn from(n: u8) -> Inner {\n        Inner(n)\n    }\n}\n",
+        "crates/other/src/lib.rt": "ghost use Rattle.std.specs.Prelude.{◌≡◌};\n\npub fn most(n: u16) -> u16\n    ensures { result ≡ n }\n{ }\n",
+        "crates/thing/specs/Own.antt": "abbrev pub found : State → List ℕ → Option RamByte\nfound s line = None\n\n"
+                                       "abbrev pub Gives : (State → ℕ → Type 0) → ℕ → Type 0\nGives ask n = (s : State) → ask s n\n",
+        "crates/thing/src/lib.rt": """
+ghost use Rattle.std.specs.Prelude.{◌≡◌, ℕ};
+ghost use Rattle.rules.specs.State.{sum};
+ghost use Rattle.thing.specs.Own.{found, Gives};
+
+use good::GoodState;
+use rules::{Line, RamByte, State};
+
+pub fn hold<F: Fn(State) -> u16>(state: State, ask: F) -> u16
+    requires callable { F.pre ask state }
+    requires gives { (n : ℕ) × Gives (F.post ask) n }
+    ensures { (n : ℕ) → Gives (F.post ask) n → result ≡ n }
+{ }
+
+pub fn most(good: GoodState, line: &mut Line) -> u16
+    ensures { (result ≡ sum line.old) × (line.new ≡ good.state.line) }
+{ }
+
+pub fn find(good: GoodState, line: &Line) -> Option<RamByte>
+    ensures { result ≡ found good.state line.now }
+{ }
+""",
+    }
+
+    def test_contracts_of_methods_impls_and_generic_functions(self):
+        page = self.contracts(**self.TYPES)
+        self.assertTrue(page.endswith("alone: thing::hold\ncontracts: 12 passed, 0 failed\n"), page)
+        self.assertIn("contract codec::word_at for rules::RamByte: unique\n", page)
+        self.assertIn("gone: only_low: the first byte of u16::to_le_bytes\n", page)
+        rules, codec, good, inner, thing, own, record = (
+            "rules/src/lib.rt", "codec/src/lib.rt", "good/src/lib.rt", "inner.rt", "thing/src/lib.rt", "Own.antt", "Uniqueness.antt")
+        for wrong, failed, *change in (
+                ("its field says", 2, rules, "r ≡ ram_byte n", "r ≡ ram_byte 0"),
+                ("`ram_byte` is from Rattle.other, and in its field from Rattle.rules.specs.State", 2, rules, "rules.specs.State.{ram_byte}", "other.{ram_byte}"),
+                ("it has no contract", 2, rules, "ghost from_gives = { λ n r. r ≡ ram_byte n };", ""),
+                ("RamByte::from: its ghost member has other parameters", None, rules, "λ n r. r ≡ ram_byte n", "λ n m r. r ≡ ram_byte n"),
+                ("its field says", 3, codec, "(word_at bytes.now at) result", "(word_at bytes.now 0) result"),
+                ("it is generic, and the table INSTANCES has no type for it", 4, codec, "fn word_at<", "fn item_at<"),
+                ("it is generic, and the table INSTANCES has no type for it", 3, codec, "W: From<u16>", "W: From<u8>"),
+                ("has no record that says the same", 1, good, "pub ghost good: { good_state state ≡ true }", "pub ghost good: { good_state state ≡ false }"),
+                ("has no record that says the same", 1, record, "pub good : good_state state ≡ true", "pub good : true ≡ true"),
+                ("has a record Bad, and no public struct says the same", 1, record, "pub record Uniqueness", "pub record Bad : Type 0 where\n  pub n : ℕ\n\npub record Uniqueness"),
+                ("`good_state` is from Rattle.rules.specs.State, and in its field from nowhere", 2, record, "good_state, ram_byte,", "ram_byte,"),
+                ("its field says", 1, good, "(λ good. good.state ≡ s)", "(λ good. s ≡ s)"),
+                ("or another result", 1, record, "Result GoodState Refusal", "Result State Refusal"),
+                ("its field says", 1, good, "result ≡ self.state", "self.state ≡ self.state"),
+                ("a clause names `self` for more than its state", 1, good, "result ≡ self.state", "result ≡ self.other"),
+                ("a clause names `good` for more than its state", 1, thing, "found good.state", "found good"),
+                ("its field is about other parameters", 2, thing, "use good::GoodState", "use other::GoodState"),
+                ("its field is about other parameters", 2, rules, "pub type Line = [u8; 12]", "pub type Line = Option<u8>"),
+                ("its field is about r, and it leaves its result, line'", 2, record, "only_thing_most", "only_thing_least"),
+                ("`found`, a parameter of its field, is none of its own", 1, own, "→ Option RamByte", "→ Option RamByte → ℕ"),
+                ("a premise that is none of its `requires`: (n : ℕ) × Gives ask n", 1, thing, "    requires gives { (n : ℕ) × Gives (F.post ask) n }\n", ""),
+                ("a premise that is none of its `requires`: (n : ℕ) × Gives state n", 1, record, "× Gives ask n)", "× Gives state n)"),
+                ("its field is about other parameters", 1, thing, "F: Fn(State) -> u16", "F: Fn(u8) -> u16"),
+                ("it is generic, and the table INSTANCES has no type for it", 1, thing, "F: Fn(State) -> u16", "F: FnOnce(State) -> u16"),
+                ("`ℕ` is from nowhere, and in its field from Rattle.std.specs.Prelude", 1, thing, "{◌≡◌, ℕ}", "{◌≡◌}"),
+                ("`Gives`, a parameter of its field, is none of its own", 1, own, "(State → ℕ → Type 0) → ℕ", "(ℕ → State → Type 0) → ℕ"),
+                ("contract good::inner::GoodState::from: FAILED: it has no contract", 1, inner, "Inner", "GoodState"),
+                ("has only_low, and a public function that went has that name", 1, thing, "pub fn most", "pub fn low() -> u8\n    ensures { result ≡ 0 }\n{ }\n\npub fn most"),
+                ("has no field only_low", 1, record, "  pub only_low : Only (λ r. r ≡ 0)\n", ""),
+                ("has a `pub trait`, which this test does not follow", None, thing, "pub fn most", "pub trait Thing { }\n\npub fn most")):
+            with self.subTest(wrong=wrong, change=change):
+                page = self.contracts(change, **self.TYPES)
+                self.assertIn(wrong, page)
+                self.assertTrue(page.endswith(f", {failed} failed\n" if failed else "contracts: 0 passed, 1 failed\n"), page)
+
     # ---- addresses ----
 
     def test_addresses_that_are_mixed(self):
         """What tools/addresses.py finds in a made-up source, and that it passes what is right."""
         right = "pub fn f(config: Config, a: RamByte) -> bool\n{ a.0 <= 3 && above(a, n).0 == 4 }\n"
         ghost = ("ghost use Rattle.rules.specs.Memory.{Block, block_of};\n#[tactic(auto, using(crate::proofs::M::block_of))]\nfn f(a: RamByte)\n"
-                 "    requires below { let b = RamByte(3) in (λ a. { a.0 = 3; Block }) }\n    ensures { block_of a ≡ Found }\n")
+                 "    requires below { let b = RamByte(3) in (λ a. { a.0 = 3; Block }) }\n    ensures { block_of a ≡ Block }\n")
         for name, text, wrong in (
                 ("frames", right, ""),
                 ("frames", ghost + "{ }", ""),
@@ -599,8 +766,21 @@ pub extern "C" fn clear(out: &mut [u8])
                 ("frames", "\nfn f(mut r: RamByte, k: FlashWord) { r.0 = k.0; }", "2: the number inside an address is stored to"),
                 ("frames", "fn f(mut r: RamByte) { r.0 += 1; }", "1: the number inside an address is stored to"),
                 ("frames", "fn f(bot: RamByte, site: FlashWord) { above(bot, site.0) }", "1: the number inside an address is handed as an offset"),
+                ("frames", "fn f(k: u16) -> RamByte { RamByte::from(k) }", "1: a conversion that can make an address"),
+                ("frames", "fn f(k: u16) -> RamByte { some(k).map(FlashWord::from) }", "1: a conversion that can make an address"),
+                ("frames", "fn f(k: u16) -> RamByte { k.into() }", "1: a conversion that can make an address"),
+                ("frames", "fn f<W: From<u16>>(k: u16) -> W { W::from(k) }", "1: a conversion that can make an address"),
+                ("frames", "fn f(ram: &mut [u8]) -> Option<&mut Ram> { ram.try_into().ok() }", ""),
+                ("codec", "fn f<W: From<u16>>(k: u16) -> W { W::from(k) }", ""),
+                ("hmt_c", "fn f(k: u16) -> RamByte { RamByte::from(k) }", ""),
+                ("hmt_c", "fn f(k: u16) -> RamByte { RamByte(k) }", "1: an address is made from a number"),
+                ("hmt_c", "fn f(site: FlashWord) -> RamByte { RamByte::from(site.0) }", "1: an address is made from the number inside another"),
+                ("address", "fn f(site: FlashWord) -> RamByte { RamByte(site.0) }", ""),
+                ("rules", "impl From<u16> for RamByte {\n    ghost from_gives = { λ n r. r ≡ ram_byte n };\n}", ""),
+                ("good", "pub struct Good {\n    pub state: State,\n    pub ghost good: { Block ≡ state.bound },\n}", ""),
                 ("frames", "use rules::Block;", "1: a block number outside the map code"),
                 ("map", "fn f(k: Block) { further(k, 1) }", ""),
+                ("map", "pub fn f() -> Option<Block> { None }", "1: a public function of the map names a block"),
                 ("map", "pub fn f(\n    config: Config,\n    k: Block,\n) -> u16\n{ 1 }", "1: a public function of the map names a block"),
                 ("map", "pub fn f(ram: &[u8; 4], k: Block)\n    ensures one { k.0 ≡ 1 }\n{ }", "1: a public function of the map names a block")):
             with self.subTest(text=text):
@@ -701,6 +881,9 @@ class MustFail(unittest.TestCase):
         f"{ONE}:3:5: error: `returns`: stopped at the step limit (1000000 steps)": "for another reason than a fact",
         f"{ONE}:3:5: error: `returns`: the two types differ\nfn one::nine: no proof: it calls `one::eight`, which is not proved": "",
         f"{ONE}:3:5: error: `returns`: the two types differ\nfn one::nine: no proof: expected invariants in there; it has a loop": "for another reason",
+        f"{ONE}:3:5: error: `returns`: the two types differ\nfn one::nine: no proof: expected answers in there": "for another reason",
+        f"{ONE}:3:5: error: `returns`: the two types differ\n./proofs/Law.antt:3:5: error: `law`: the two types differ\nfn one::nine: no proof: expected answers in there": "",
+        f"{ONE}:3:5: error: `returns`: the two types differ\n./proofs/Other.antt:3:5: error: `law`: the two types differ\nfn one::nine: no proof: expected answers in there": "for another reason",
     }
 
     def edit(self, folder, name, words, old, new):
@@ -717,7 +900,7 @@ class MustFail(unittest.TestCase):
                 Path(path).write_text(Path(path).read_text(encoding="utf-8").replace("src/lib.rt", file), encoding="utf-8")
                 self.assertRaises(ValueError, must_fail.Edit, path)
             Path(folder, "crates/one/src").mkdir(parents=True)
-            Path(folder, "crates/one/src/lib.rt").write_text(EIGHT + "fn nine() {\n    9\n}\n", encoding="utf-8")
+            Path(folder, "crates/one/src/lib.rt").write_text(EIGHT + "#[tactic(auto, using(crate::proofs::Law::law))]\nfn nine() {\n    9\n}\n", encoding="utf-8")
             for text, why in self.PRINTED.items():
                 with self.subTest(text=text):
                     if why:

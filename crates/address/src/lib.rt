@@ -1,9 +1,9 @@
-// The three kinds of address, and every way from a number or from one kind to another: no other file makes one from a number, but
-// for those where numbers come in from outside. A block is 8 bytes here and nowhere else in the code.
+// The three kinds of address, and every way from one to another: no other file makes one from a number, but for those where numbers come in
+// from outside. A block is 8 bytes here and nowhere else in the code.
 #![tactic(auto)]
 
-ghost use Rattle.std.specs.Prelude.{◌≡◌, ◌&&◌, ◌+◌, ◌-◌, ◌*◌, ◌≤◌, ◌<◌};
-ghost use Rattle.rules.specs.Memory.{start_of, block_of, is_multiple, divided_up, blocks_for, ram_bytes};
+ghost use Rattle.std.specs.Prelude.{◌≡◌, ◌&&◌, ◌+◌, ◌-◌, ◌≤◌, ◌<◌};
+ghost use Rattle.rules.specs.Memory.{start_of, block_of, is_multiple, blocks_for, ram_bytes};
 ghost use Rattle.rules.specs.Code.{flash_word};
 ghost use Rattle.rules.specs.State.{ram_byte};
 ghost use Rattle.rules.specs.Malloc.{block};
@@ -13,12 +13,13 @@ pub mod packing;
 
 use rules::{Block, Config, FlashWord, RamByte};
 
-// RAM is this many bytes.
-pub const RAM_BYTES: u16 = 4096;
+// RAM is this many bytes; an address has sixteen bits, where an array's length is a usize.
+pub const RAM_BYTES: u16 = rules::RAM_BYTES as u16;
 
 const BLOCK_BYTES: u16 = 8;
 
 // How many whole blocks lie from bot up to an address.
+#[tactic(auto, unfolding(rules::specs::Memory::block_of, rules::specs::Memory::block_bytes))]
 pub fn whole_blocks(config: Config, a: RamByte) -> u16
     requires { config.bot.0 ≤ a.0 }
     ensures { result ≡ block_of config a }
@@ -35,6 +36,7 @@ pub fn block_of(config: Config, a: RamByte) -> Block
 }
 
 // The first byte of a block.
+#[tactic(auto, unfolding(rules::specs::Memory::start_of, rules::specs::Memory::block_bytes))]
 pub fn start_of(config: Config, k: Block) -> RamByte
     requires { start_of config k.0 < 65536 }
     ensures { result ≡ ram_byte (start_of config k.0) }
@@ -58,7 +60,7 @@ pub fn before(k: Block, n: u16) -> Block
     Block(k.0 - n)
 }
 
-// The first block of the protected range.
+// The first block of the protected range: no default, since block 0 is a place and no zero.
 pub fn first_block() -> Block
     ensures { result ≡ block 0 }
 {
@@ -69,25 +71,19 @@ pub fn first_block() -> Block
 pub fn are_multiples(config: Config, a: RamByte, b: RamByte) -> bool
     ensures { result ≡ (is_multiple config a && is_multiple config b) }
 {
-    (a.0 | b.0) % BLOCK_BYTES == 0
-}
-
-// How many parts of d hold n, in numbers so wide that the sum can't pass them.
-fn divided_up(n: u16, d: u16) -> u16
-    requires { 0 < d }
-    ensures { result ≡ divided_up n d }
-{
-    ((n as u32 + (d as u32 - 1)) / d as u32) as u16
+    (a.0 | b.0).is_multiple_of(BLOCK_BYTES)
 }
 
 // How many blocks hold size bytes.
+#[tactic(auto, unfolding(rules::specs::Memory::blocks_for, rules::specs::Memory::divided_up, rules::specs::Memory::block_bytes))]
 pub fn blocks_for(config: Config, size: u16) -> u16
     ensures { result ≡ blocks_for config size }
 {
-    divided_up(size, BLOCK_BYTES)
+    size.div_ceil(BLOCK_BYTES)
 }
 
-// The byte n above another.
+// The byte n above another. `above`, `below`, `further` and `before` are no `+` and `-`: a call can be searched for the number inside an address
+// that is handed as a distance (tools/addresses.py), a sum can't.
 pub fn above(a: RamByte, n: u16) -> RamByte
     requires { a.0 + n < 65536 }
     ensures { result ≡ ram_byte (a.0 + n) }
@@ -110,41 +106,9 @@ pub fn last_byte() -> RamByte
     RamByte(RAM_BYTES - 1)
 }
 
-// The zero of a refused set-up's state.
-pub fn zero_byte() -> RamByte
-    ensures { result ≡ ram_byte 0 }
-{
-    RamByte(0)
-}
-
-pub fn zero_word() -> FlashWord
-    ensures { result ≡ flash_word 0 }
-{
-    FlashWord(0)
-}
-
-// Sixteen bits of a frame, a script or a slot, low byte first.
-pub fn joined(low: u8, high: u8) -> u16
-    ensures { result ≡ low + 256 * high }
-{
-    low as u16 + 256 * (high as u16)
-}
-
-pub fn byte_of(low: u8, high: u8) -> RamByte
-    ensures { result ≡ ram_byte (low + 256 * high) }
-{
-    RamByte(joined(low, high))
-}
-
-pub fn word_of(low: u8, high: u8) -> FlashWord
-    ensures { result ≡ flash_word (low + 256 * high) }
-{
-    FlashWord(joined(low, high))
-}
-
-// An entry of a jump table.
+// An entry of a jump table; public, and so it stays beside From.
 pub fn entry(word: u16) -> FlashWord
     ensures { result ≡ flash_word word }
 {
-    FlashWord(word)
+    FlashWord::from(word)
 }

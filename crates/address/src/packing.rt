@@ -4,19 +4,20 @@ ghost use Rattle.rules.specs.Memory.{ram_bytes, layout_of, map_bytes_for, map_by
 ghost use Rattle.rules.specs.State.{ram_byte};
 ghost use Rattle.address.specs.Places.{map_at, to_whole};
 
-use crate::divided_up;
 use rules::{Block, Config, RamByte};
 
 pub const PER_BYTE: u16 = 2;
 
-// How many map bytes hold the codes of n blocks.
+// How many map bytes hold the codes of n blocks. By ((n as u32 + (PER_BYTE as u32 - 1)) / PER_BYTE as u32) as u16 every operation takes six instructions more, and a call then more than the C.
+#[tactic(auto, unfolding(rules::specs::Memory::map_bytes_for, rules::specs::Memory::divided_up, rules::specs::Memory::per_byte))]
 pub fn map_bytes_for(config: Config, n: u16) -> u16
     ensures { result ≡ map_bytes_for (layout_of config) n }
 {
-    divided_up(n, PER_BYTE)
+    ((n as u32 + (PER_BYTE as u32 - 1)) / PER_BYTE as u32) as u16
 }
 
 // The byte of the map that holds a block's code; of a block behind a run it may be the one behind RAM.
+#[tactic(auto, unfolding(rules::specs::Memory::map_byte, rules::specs::Memory::per_byte))]
 pub fn map_byte(bot: RamByte, k: Block) -> RamByte
     requires { map_byte (map_at bot) k.0 ≤ ram_bytes }
     ensures { result ≡ ram_byte (map_byte (map_at bot) k.0) }
@@ -25,6 +26,7 @@ pub fn map_byte(bot: RamByte, k: Block) -> RamByte
 }
 
 // How many blocks there are from one on before the next whose code is the first of its byte.
+#[tactic(auto, unfolding(crate::specs::Places::to_whole, rules::specs::Memory::per_byte))]
 pub fn to_whole(bot: RamByte, k: Block) -> u16
     ensures { result ≡ to_whole (map_at bot) k.0 }
 {

@@ -1,11 +1,12 @@
-// A configuration as bytes: bot, heap, safe, top, jt, then eight pairs start, end.
+// A configuration as bytes: bot, heap, safe, top, jt, then eight pairs start, end; in a slice from a place on, which differs at each call.
 ghost use Rattle.std.specs.Prelude.{◌≡◌, ◌+◌, ◌<◌, ◌≤◌, length};
 ghost use Rattle.rules.specs.Memory.{trusted};
 ghost use Rattle.rules.specs.Code.{domains, range_of};
 ghost use Rattle.rules.specs.Bytes.{config_bytes, ranges_place, range_at, ranges_at, config_at};
 
-use crate::{flash_word_at, ram_byte_at};
+use crate::word_at;
 use rules::{Config, Range};
+use std::array;
 
 // How many bytes it takes, and where its parts stand in them; bot is the first.
 pub const BYTES: usize = 42;
@@ -28,8 +29,8 @@ pub fn range_at(bytes: &[u8], at: usize) -> Range
     ensures { result ≡ range_at bytes.now at }
 {
     Range {
-        start: flash_word_at(bytes, at),
-        end: flash_word_at(bytes, at + 2),
+        start: word_at(bytes, at),
+        end: word_at(bytes, at + 2),
     }
 }
 
@@ -46,16 +47,7 @@ fn ranges_at(bytes: &[u8], at: usize) -> [Range; 8]
     requires { at + config_bytes ≤ length bytes.now }
     ensures { result ≡ ranges_at bytes.now (ranges_place at) domains }
 {
-    [
-        code_range(bytes, at, 0),
-        code_range(bytes, at, 1),
-        code_range(bytes, at, 2),
-        code_range(bytes, at, 3),
-        code_range(bytes, at, 4),
-        code_range(bytes, at, 5),
-        code_range(bytes, at, 6),
-        code_range(bytes, at, 7),
-    ]
+    array::from_fn(|d| code_range(bytes, at, d as u8))
 }
 
 pub fn config_at(bytes: &[u8], at: usize) -> Config
@@ -63,11 +55,11 @@ pub fn config_at(bytes: &[u8], at: usize) -> Config
     ensures { result ≡ config_at bytes.now at }
 {
     Config {
-        bot: ram_byte_at(bytes, at),
-        heap: ram_byte_at(bytes, at + HEAP),
-        safe: ram_byte_at(bytes, at + SAFE),
-        top: ram_byte_at(bytes, at + TOP),
-        jt: flash_word_at(bytes, at + JT),
+        bot: word_at(bytes, at),
+        heap: word_at(bytes, at + HEAP),
+        safe: word_at(bytes, at + SAFE),
+        top: word_at(bytes, at + TOP),
+        jt: word_at(bytes, at + JT),
         ranges: ranges_at(bytes, at),
     }
 }

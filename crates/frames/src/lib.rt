@@ -1,55 +1,45 @@
-// Frames of the safe stack: pushed on the bytes used of the area that is lent, and the last one read. No other byte of RAM is in reach.
+// Frames of the safe stack: pushed on the bytes used of the area that is lent, and the last one read. No other byte of RAM is in
+// reach. An area and the bytes used stay two parameters: only_push and only_pop are about both.
 #![tactic(auto)]
 
-ghost use Rattle.std.specs.Prelude.{◌≡◌, ◌+◌, ◌≤◌, ◌<◌, ◌%◌, ◌/◌, length, take};
+ghost use Rattle.std.specs.Prelude.{◌≡◌, ◌+◌, ◌≤◌, ◌<◌, length, take};
 ghost use Rattle.std.proofs.lemmas.List.Edits.{sets};
 ghost use Rattle.rules.specs.Memory.{ram_bytes};
-ghost use Rattle.rules.specs.Bytes.{low, high};
 ghost use Rattle.rules.specs.Call.{frame_bytes};
 ghost use Rattle.rules.specs.Return.{read_frame};
 ghost use Rattle.rules.specs.declared.Frame.TheVariants.{Local, Cross};
 
+use address::domains::TRUSTED;
+use codec::word_at;
 use rules::{FlashWord, Frame, RamByte};
 
-// How many bytes a local frame takes, and a cross-domain one.
+// How many bytes a local frame takes, and a cross-domain one: frames of other bytes, so each has its function that writes it.
 pub const LOCAL_BYTES: u16 = 3;
 
 pub const CROSS_BYTES: u16 = 5;
 
+// A tag is a number: document 01 fixes 255 and 0 to 7, and a domain is its own tag.
 const LOCAL_TAG: u8 = 255;
 
-pub fn low(n: u16) -> u8
-    ensures { result ≡ low n }
-{
-    (n % 256) as u8
-}
-
-pub fn high(n: u16) -> u8
-    ensures { result ≡ high n }
-{
-    (n / 256) as u8
-}
-
+#[tactic(auto, using(crate::proofs::Written::copied))]
 fn push_local(area: &mut [u8], used: u16, site: FlashWord)
     requires { (used + length (frame_bytes (Local site)) ≤ length area.old) × (length area.old ≤ ram_bytes) }
     ensures { area.new ≡ sets area.old used (frame_bytes (Local site)) }
 {
     let at = used as usize;
-    area[at] = low(site.0);
-    area[at + 1] = high(site.0);
-    area[at + 2] = LOCAL_TAG;
+    let [low, high] = site.0.to_le_bytes();
+    area[at..at + 3].copy_from_slice(&[low, high, LOCAL_TAG]);
 }
 
+#[tactic(auto, using(crate::proofs::Written::copied))]
 fn push_cross(area: &mut [u8], used: u16, site: FlashWord, bound: RamByte, domain: u8)
     requires { (used + length (frame_bytes (Cross site bound domain)) ≤ length area.old) × (length area.old ≤ ram_bytes) }
     ensures { area.new ≡ sets area.old used (frame_bytes (Cross site bound domain)) }
 {
     let at = used as usize;
-    area[at] = low(site.0);
-    area[at + 1] = high(site.0);
-    area[at + 2] = low(bound.0);
-    area[at + 3] = high(bound.0);
-    area[at + 4] = domain;
+    let [site_low, site_high] = site.0.to_le_bytes();
+    let [bound_low, bound_high] = bound.0.to_le_bytes();
+    area[at..at + 5].copy_from_slice(&[site_low, site_high, bound_low, bound_high, domain]);
 }
 
 pub fn push(area: &mut [u8], used: u16, frame: Frame)
@@ -64,29 +54,21 @@ pub fn push(area: &mut [u8], used: u16, frame: Frame)
 }
 
 // The tag, below the bytes used, says which frame is the last.
+#[tactic(auto, unfolding(rules::specs::Return::read_frame))]
 pub fn pop(area: &[u8], used: u16) -> Frame
     requires { (0 < used) × (used ≤ length area.now) }
     ensures { result ≡ read_frame (take used area.now) }
 {
     let tag = area[(used - 1) as usize];
     match tag {
-        255 => {
-            if used < LOCAL_BYTES {
-                return Frame::Damage;
-            }
+        LOCAL_TAG if LOCAL_BYTES <= used => {
             let at = (used - LOCAL_BYTES) as usize;
-            let site = address::word_of(area[at], area[at + 1]);
-            return Frame::Local(site);
+            Frame::Local(word_at(area, at))
         }
-        0..=7 => {
-            if used < CROSS_BYTES {
-                return Frame::Damage;
-            }
+        0..=TRUSTED if CROSS_BYTES <= used => {
             let at = (used - CROSS_BYTES) as usize;
-            let site = address::word_of(area[at], area[at + 1]);
-            let bound = address::byte_of(area[at + 2], area[at + 3]);
-            return Frame::Cross(site, bound, tag);
+            Frame::Cross(word_at(area, at), word_at(area, at + 2), tag)
         }
-        _ => return Frame::Damage,
+        _ => Frame::Damage,
     }
 }

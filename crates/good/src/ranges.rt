@@ -1,11 +1,13 @@
 // Section 3: jt and the eight code ranges of a configuration.
-ghost use Rattle.std.specs.Prelude.{◌≡◌, ◌&&◌, drop};
-ghost use Rattle.rules.specs.Code.{apart, apart_from};
+ghost use Rattle.std.specs.Prelude.{◌≡◌, ◌&&◌, ◌<◌, ℕ, List, leb};
+ghost use Rattle.rules.specs.declared.Range.{Range};
+ghost use Rattle.rules.specs.Code.{domains, ordered, apart, all_apart};
 ghost use Rattle.rules.specs.State.{jt_in_flash, ranges_ordered, ranges_apart};
+ghost use Rattle.good.specs.Reads.{Reads};
 
-use rules::{Config, Range};
+use rules::{Config, FlashWord, Range};
 
-// The jump tables end where flash does.
+// The jump tables end where flash does: a number, since no address is made outside crate address (tools/addresses.py).
 const LAST_JT: u16 = 64512;
 
 const DOMAINS: u8 = 8;
@@ -19,49 +21,37 @@ pub fn jt_in_flash(config: Config) -> bool
 pub fn apart(r: Range, q: Range) -> bool
     ensures { result ≡ apart r q }
 {
-    if r.start.0 == r.end.0 {
-        return true;
-    }
-    if q.start.0 == q.end.0 {
-        return true;
-    }
-    if r.end.0 <= q.start.0 {
-        return true;
-    }
-    q.end.0 <= r.start.0
+    r.start == r.end || q.start == q.end || r.end <= q.start || q.end <= r.start
 }
 
-// Whether a range is apart from those of the domains from one on.
-fn apart_from(config: Config, range: Range, from: u8) -> bool
-    ensures { result ≡ apart_from range (drop from config.ranges) }
+fn ordered(r: Range, jt: FlashWord) -> bool
+    ensures { result ≡ (leb r.start.0 r.end.0 && leb r.end.0 jt.0) }
 {
-    let mut d = from;
-    while d < DOMAINS {
-        if !apart(range, config.ranges[d as usize]) {
+    r.start <= r.end && r.end <= jt
+}
+
+// Each ordered, ending at jt at the latest, and apart from those after it, in whatever order they lie, where `range_of` reads that of a domain.
+pub fn in_any_order_by<F: Fn(u8) -> Range>(jt: FlashWord, range_of: F) -> bool
+    requires callable { (d : ℕ) → d < domains → F.pre range_of d }
+    requires reads { (ranges : List Range) × Reads (F.post range_of) ranges }
+    ensures { (ranges : List Range) → Reads (F.post range_of) ranges → result ≡ (ordered jt ranges && all_apart ranges) }
+{
+    for d in 0..DOMAINS {
+        let range = range_of(d);
+        if !ordered(range, jt) {
             return false;
         }
-        d += 1;
+        for e in d + 1..DOMAINS {
+            if !apart(range, range_of(e)) {
+                return false;
+            }
+        }
     }
     true
 }
 
-// Each ordered, ending at jt at the latest, and apart from those after it, in whatever order they lie.
 pub fn in_any_order(config: Config) -> bool
     ensures { result ≡ (ranges_ordered config && ranges_apart config) }
 {
-    let mut d: u8 = 0;
-    while d < DOMAINS {
-        let range = config.ranges[d as usize];
-        if range.end.0 < range.start.0 {
-            return false;
-        }
-        if config.jt.0 < range.end.0 {
-            return false;
-        }
-        if !apart_from(config, range, d + 1) {
-            return false;
-        }
-        d += 1;
-    }
-    true
+    in_any_order_by(config.jt, |d| config.ranges[d as usize])
 }

@@ -1,4 +1,3 @@
 -- What the proofs of this crate share.
 pub mod Ranges
-pub mod Refused
-pub mod Handed
+pub mod Step

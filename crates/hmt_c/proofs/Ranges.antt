@@ -1,39 +1,39 @@
--- What a loop over the code ranges in a slot has left.
+-- The code ranges in a slot, as the code cuts them out of it and goes over them.
 -- Assumes nothing.
-use Prim.Native.Nat.{ℕ, suc, ◌+◌, ◌-◌, ◌/◌, ◌%◌, ◌<◌}
-use mathlib.Core.Path.{◌≡◌, refl}
-use mathlib.Core.Bool.{true, ◌&&◌}
-use mathlib.Core.List.{List, ◌∷◌}
-use native.Mathlib.Omega.{arith}
-use lib.Dec.{leb}
-use Rattle.rules.specs.declared.FlashWord.{FlashWord}
+use Rattle.std.proofs.Common.{◌≡◌, ℕ, zero, suc, ◌+◌, ◌*◌, ◌<◌, List, [], ◌∷◌, length, get_or, take, drop, refl, ap₂, ◌∙◌, arith}
+use Rattle.std.proofs.lemmas.List.{length-take, get_or-take, get_or-drop, drop_more, drop_all}
+use Rattle.std.specs.Simd.{first_chunks}
 use Rattle.rules.specs.declared.Range.{Range}
-use Rattle.rules.specs.Code.{ordered, apart, apart_from, all_apart}
 use Rattle.rules.specs.Bytes.{range_at, ranges_at}
-use Rattle.rules.specs.Slot.{run_part}
-use Rattle.good.proofs.Groups.{ranges_good, range_cons}
-use Rattle.hmt_c.specs.Ranges.{ranges_from}
+use Rattle.hmt_c.specs.Ranges.{ranges_in}
 
-module _ (slot : List ℕ) (at : ℕ) (h : at < run_part) (e : at % 4 ≡ run_part % 4) where
-  next : ranges_from slot at ≡ range_at slot at ∷ ranges_from slot (at + 4)
-  unfolding ranges_from ranges_at
-  next = let more : (run_part - at) / 4 ≡ suc ((run_part - (at + 4)) / 4) = omega arith in rw more refl
+-- bytes cut into fours hold the ranges that stand in them, if they are those of the slot from a place on
+pub ranges_cut : (slot cut : List ℕ) (at n : ℕ) → ((k j : ℕ) → k < 4 * n → at + k ≡ j → get_or cut k 0 ≡ get_or slot j 0)
+    → ranges_in (first_chunks 4 n cut) ≡ ranges_at slot at n
+unfolding ranges_at
+ranges_cut slot cut at zero same = refl
+ranges_cut slot cut at (suc n) same =
+    let byte : (k j : ℕ) → k < 4 → at + k ≡ j → get_or (take 4 cut) k 0 ≡ get_or slot j 0 = λ k j h e. get_or-take 4 cut k 0 h ∙ same k j (omega arith) e in
+    let first : range_at (take 4 cut) 0 ≡ range_at slot at =
+    rw (
+      byte 0 at (omega arith) (omega arith),
+      byte 1 (at + 1) (omega arith) refl,
+      byte 2 (at + 2) (omega arith) refl,
+      byte 3 (at + 2 + 1) (omega arith) (omega arith),
+    )
+    refl in
+    ap₂ ◌∷◌ first (ranges_cut slot (drop 4 cut) (at + 4) n (λ k j h e. get_or-drop 4 cut k 0 ∙ same (4 + k) j (omega arith) (omega arith)))
 
-  pub from_next : (r : Range) → apart_from r (ranges_from slot at) ≡ (apart r (range_at slot at) && apart_from r (ranges_from slot (at + 4)))
-  unfolding apart_from
-  from_next r = rw next refl
+-- from a place on, below the first n: the one that stands there, and those behind it
+pub range_next : (n i : ℕ) (all : List (List ℕ)) {r : Range} → i < length (take n all) → r ≡ range_at (get_or (take n all) i []) 0
+    → ranges_in (drop i all) ≡ r ∷ ranges_in (drop (i + 1) all)
+range_next n i all h e =
+    let short : i < n = omega (arith, length-take n all) in
+    let same : get_or (take n all) i [] ≡ get_or all i [] = get_or-take n all i [] short in
+    rw (drop_more all i [] (omega (arith, length-take n all)), e, same) refl
 
-  pub range_next : (jt : FlashWord)
-      → ranges_good jt (ranges_from slot at)
-      ≡ (leb (range_at slot at).start.0 (range_at slot at).end.0
-      && (leb (range_at slot at).end.0 jt.0 && (apart_from (range_at slot at) (ranges_from slot (at + 4)) && ranges_good jt (ranges_from slot (at + 4)))))
-  range_next jt = rw next (range_cons jt (range_at slot at) (ranges_from slot (at + 4)))
-
-module _ (slot : List ℕ) (at : ℕ) (h : at ≡ run_part) where
-  pub from_none : (r : Range) → apart_from r (ranges_from slot at) ≡ true
-  unfolding ranges_from ranges_at apart_from
-  from_none r = rw h refl
-
-  pub range_none : (jt : FlashWord) → ranges_good jt (ranges_from slot at) ≡ true
-  unfolding ranges_from ranges_at ordered all_apart
-  range_none jt = rw h refl
+-- past the first n of n + 1, the last
+pub range_last : (n i : ℕ) (all : List (List ℕ)) {r : Range} → length all ≡ n + 1 → i ≡ n → r ≡ range_at (get_or all n []) 0
+    → ranges_in (drop i all) ≡ r ∷ []
+range_last n i all len at e =
+    rw (at, drop_more all n [] (omega arith), drop_all (n + 1) all (omega arith), e) refl

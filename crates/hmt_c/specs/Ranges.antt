@@ -1,9 +1,8 @@
--- The code ranges that a slot holds, by the place from which they are read.
-use Rattle.std.specs.Prelude.{ℕ, ◌-◌, ◌/◌, List}
+-- Code ranges as bytes.
+use Rattle.std.specs.Prelude.{ℕ, List, map}
 use Rattle.rules.specs.declared.Range.{Range}
-use Rattle.rules.specs.Bytes.{ranges_at}
-use Rattle.rules.specs.Slot.{run_part}
+use Rattle.rules.specs.Bytes.{range_at}
 
--- those from a place on: four bytes each, up to the part behind them
-unfoldable pub ranges_from : List ℕ → ℕ → List Range
-ranges_from slot at = ranges_at slot at ((run_part - at) / 4)
+-- the ranges that stand in four bytes each
+abbrev pub ranges_in : List (List ℕ) → List Range
+ranges_in = map (λ bytes. range_at bytes 0)

@@ -1,22 +1,13 @@
-// The answer as one number of 32 bits: the answer's number times 65536 plus its value.
+// The answer as one number of 32 bits, which is all that a function called from C can give back.
 ghost use Rattle.std.specs.Prelude.{◌≡◌};
 ghost use Rattle.rules.specs.Slot.{packed};
-ghost use Rattle.rules.specs.declared.Answer.TheVariants.{Refused};
 
-use codec::numbers::number_of;
-use rules::{Answer, Refusal};
+use codec::numbers::{number_of, value_of};
+use rules::Answer;
 
-pub fn refused(refusal: Refusal) -> u32
-    ensures { result ≡ packed (Refused refusal) }
-{
-    number_of(Answer::Refused(refusal)) as u32 * 65536
-}
-
+// The answer's number times 65536 plus its value.
 pub fn packed(answer: Answer) -> u32
     ensures { result ≡ packed answer }
 {
-    match answer {
-        Answer::Done(value) => value as u32,
-        Answer::Refused(refusal) => refused(refusal),
-    }
+    number_of(answer) as u32 * 65536 + value_of(answer) as u32
 }

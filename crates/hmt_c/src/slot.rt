@@ -1,28 +1,21 @@
 // The slot: the state judged and read where it stands, the fresh state and what a call or a return changes written to it.
-ghost use Rattle.std.specs.Prelude.{◌≡◌, true, ◌&&◌, [], ◌∷◌, ◌++◌, ◌%◌, ◌≤◌, length};
+ghost use Rattle.std.specs.Prelude.{◌≡◌, true, ◌&&◌, [], ◌∷◌, ◌++◌, length};
 ghost use Rattle.std.proofs.lemmas.List.Edits.{sets};
-ghost use Rattle.rules.specs.Code.{apart_from};
+ghost use Rattle.rules.specs.Code.{domains};
 ghost use Rattle.rules.specs.State.{ranges_ordered, ranges_apart, good_config, good_state};
-ghost use Rattle.rules.specs.Slot.{slot_bytes, run_part, config_in, state_in, run_as_bytes, packed};
+ghost use Rattle.rules.specs.Slot.{run_part, config_in, state_in, run_as_bytes};
 ghost use Rattle.good.proofs.Groups.{rest_good};
-ghost use Rattle.hmt_c.specs.Ranges.{ranges_from};
-ghost use Rattle.laws.proofs.ToC.{after};
+ghost use Rattle.hmt_c.specs.Ranges.{ranges_in};
 
-use crate::answer::refused;
-use codec::config::{JT, RANGE_BYTES, RANGES, config_at, range_at};
-use codec::{ram_byte_at, word_at};
-use frames::{high, low};
-use good::ranges::apart;
-use rules::{Answer, Outcome, Range, State};
+use codec::config::{JT, RANGE_BYTES, RANGES, code_range, config_at, range_at};
+use codec::word_at;
+use good::ranges::in_any_order_by;
+use rules::{Config, FlashWord, State};
 
 // Where its parts begin: the configuration, what a call or a return changes (bound, safe pointer, domain), a byte 0.
 pub const CONFIG: usize = 0;
 
 const RUN: usize = CONFIG + codec::config::BYTES;
-
-pub const ZERO: usize = RUN + 5;
-
-pub const BYTES: usize = ZERO + 1;
 
 const BOUND: usize = RUN;
 
@@ -30,206 +23,126 @@ const SAFEPOINTER: usize = RUN + 2;
 
 const DOMAIN: usize = RUN + 4;
 
-pub fn state_in(slot: &[u8]) -> State
-    requires { length slot.now ≡ slot_bytes }
+pub const ZERO: usize = RUN + 5;
+
+pub const BYTES: usize = ZERO + 1;
+
+pub type Slot = [u8; BYTES];
+
+pub fn config_in(slot: &Slot) -> Config
+    ensures { result ≡ config_in slot.now }
+{
+    config_at(slot, CONFIG)
+}
+
+pub fn state_in(slot: &Slot) -> State
     ensures { result ≡ state_in slot.now }
 {
-    let config = config_at(slot, CONFIG);
-    let bound = ram_byte_at(slot, BOUND);
-    let safepointer = ram_byte_at(slot, SAFEPOINTER);
     State {
-        config: config,
+        config: config_in(slot),
         domain: slot[DOMAIN],
-        bound: bound,
-        safepointer: safepointer,
+        bound: word_at(slot, BOUND),
+        safepointer: word_at(slot, SAFEPOINTER),
     }
 }
 
-// Where the code ranges of the first module and of the trusted domain stand.
-const FIRST: usize = CONFIG + RANGES;
-
-const TRUSTED: usize = FIRST + 7 * RANGE_BYTES;
-
-const TRUSTED_END: usize = TRUSTED + 2;
-
-const JT_PLACE: usize = CONFIG + JT;
+// The code ranges of the eight domains, each in its four bytes.
+fn ranges(slot: &Slot) -> &[[u8; RANGE_BYTES]]
+    ensures eight { length result.now ≡ domains }
+    ensures read { ranges_in result.now ≡ (config_in slot.now).ranges }
+{
+    slot[CONFIG + RANGES..RUN].as_chunks().0
+}
 
 // Code as it usually lies, seen in one pass: modules in rising order, the trusted code before or after them. An empty range below last ends
 // below it, too, and so needs no test against jt.
-fn rising(slot: &[u8]) -> bool
-    requires { length slot.now ≡ slot_bytes }
+fn rising(slot: &Slot) -> bool
     ensures { result ≡ true → (ranges_ordered (config_in slot.now) && ranges_apart (config_in slot.now)) ≡ true }
 {
-    let first = word_at(slot, FIRST);
+    let jt: FlashWord = word_at(slot, CONFIG + JT);
+    let ranges = ranges(slot);
+    let first = range_at(&ranges[0], 0).start;
     let mut last = first;
-    let mut at: usize = FIRST;
-    while at < TRUSTED {
-        let start = word_at(slot, at);
-        let end = word_at(slot, at + 2);
-        if last <= start {
-            if end < start {
+    for bytes in &ranges[..7] {
+        let code = range_at(bytes, 0);
+        if last <= code.start {
+            if code.end < code.start {
                 return false;
             }
-            last = end;
-        } else if start != end {
+            last = code.end;
+        } else if code.start != code.end {
             return false;
         }
-        at += RANGE_BYTES;
     }
-    let start = word_at(slot, TRUSTED);
-    let end = word_at(slot, TRUSTED_END);
-    if end < start {
+    let trusted = range_at(&ranges[7], 0);
+    if trusted.end < trusted.start {
         return false;
     }
-    if last <= start {
-        return end <= word_at(slot, JT_PLACE);
+    if last <= trusted.start {
+        return trusted.end <= jt;
     }
-    if first < end {
-        return false;
-    }
-    last <= word_at(slot, JT_PLACE)
+    trusted.end <= first && last <= jt
 }
 
-// Whether a range is apart from those that stand from a place on.
-fn apart_from(slot: &[u8], range: Range, from: usize) -> bool
-    requires whole_slot { length slot.now ≡ slot_bytes }
-    requires in_run_part { (from ≤ run_part) × (from % 4 ≡ run_part % 4) }
-    ensures { result ≡ apart_from range (ranges_from slot.now from) }
-{
-    let mut at = from;
-    while at < RUN {
-        if !apart(range, range_at(slot, at)) {
-            return false;
-        }
-        at += RANGE_BYTES;
-    }
-    true
-}
-
-// good::ranges::in_any_order over the slot itself: a copy of the configuration would stand on a small unit's stack.
-fn in_any_order(slot: &[u8]) -> bool
-    requires { length slot.now ≡ slot_bytes }
+// The ranges are read where they stand: a copy of the configuration would stand on a small unit's stack.
+fn in_any_order(slot: &Slot) -> bool
     ensures { result ≡ (ranges_ordered (config_in slot.now) && ranges_apart (config_in slot.now)) }
 {
-    let jt = word_at(slot, JT_PLACE);
-    let mut at: usize = FIRST;
-    while at < RUN {
-        let range = range_at(slot, at);
-        if range.end.0 < range.start.0 {
-            return false;
-        }
-        if jt < range.end.0 {
-            return false;
-        }
-        if !apart_from(slot, range, at + RANGE_BYTES) {
-            return false;
-        }
-        at += RANGE_BYTES;
-    }
-    true
+    in_any_order_by(word_at(slot, CONFIG + JT), |d| code_range(slot, CONFIG, d))
 }
 
+// Beside good::good_config and good_state the slot is judged where it stands, in one pass where code lies as usual: a store to an own block takes 169
+// instructions, and 302 where every pair is tested.
 // Whether the configuration is good but for the order of its four addresses, and its code lies as usual. This part is a call in every operation;
 // what an operation reads itself is tested where it is read.
-fn usual(slot: &[u8]) -> bool
-    requires { length slot.now ≡ slot_bytes }
+fn usual(slot: &Slot) -> bool
     ensures { result ≡ true → rest_good (config_in slot.now) ≡ true }
 {
-    if !good::bounds::multiples(config_at(slot, CONFIG)) {
-        return false;
-    }
-    if !good::ranges::jt_in_flash(config_at(slot, CONFIG)) {
-        return false;
-    }
-    rising(slot)
+    good::bounds::multiples(config_in(slot))
+        && good::ranges::jt_in_flash(config_in(slot))
+        && rising(slot)
 }
 
 // The same however its code lies.
-fn unusual(slot: &[u8]) -> bool
-    requires { length slot.now ≡ slot_bytes }
+fn unusual(slot: &Slot) -> bool
     ensures { result ≡ rest_good (config_in slot.now) }
 {
-    if !good::bounds::multiples(config_at(slot, CONFIG)) {
-        return false;
-    }
-    if !good::ranges::jt_in_flash(config_at(slot, CONFIG)) {
-        return false;
-    }
-    in_any_order(slot)
+    good::bounds::multiples(config_in(slot))
+        && good::ranges::jt_in_flash(config_in(slot))
+        && in_any_order(slot)
 }
 
 // Whether the configuration in the slot is good; its addresses first, since that is short.
-pub fn good_config(slot: &[u8]) -> bool
-    requires { length slot.now ≡ slot_bytes }
+pub fn good_config(slot: &Slot) -> bool
     ensures { result ≡ good_config (config_in slot.now) }
 {
-    if !good::good_bounds(config_at(slot, CONFIG)) {
-        return false;
-    }
-    if usual(slot) {
-        return true;
-    }
-    unusual(slot)
+    good::good_bounds(config_in(slot)) && (usual(slot) || unusual(slot))
 }
 
 // Whether the state in the slot is good. `usual` and `unusual` are called from here and from good_config, not through a function of both: with one
-// caller each they would be made a part of it, and the usual call would save registers for the unusual one.
-pub fn good_state(slot: &[u8]) -> bool
-    requires { length slot.now ≡ slot_bytes }
+// caller each they would be made a part of it, and the usual call would save registers for the unusual one. It answers a bool: with the refusal in a
+// Result most cases take 38 to 86 instructions more.
+pub fn good_state(slot: &Slot) -> bool
     ensures { result ≡ good_state (state_in slot.now) }
 {
-    if !usual(slot) {
-        if !unusual(slot) {
-            return false;
-        }
-    }
-    if !good::good_run(state_in(slot)) {
-        return false;
-    }
-    good::bounds::in_order(config_at(slot, CONFIG))
+    (usual(slot) || unusual(slot))
+        && good::good_run(state_in(slot))
+        && good::bounds::in_order(config_in(slot))
 }
 
-// The bound, the safe pointer and the domain: five bytes, and no other.
-fn write_run(slot: &mut [u8], state: State)
-    requires { length slot.old ≡ slot_bytes }
+// What a call or a return changes: the bound, the safe pointer and the domain, five bytes and no other.
+pub fn change(slot: &mut Slot, state: State)
     ensures { slot.new ≡ sets slot.old run_part (run_as_bytes state) }
 {
-    slot[BOUND] = low(state.bound.0);
-    slot[BOUND + 1] = high(state.bound.0);
-    slot[SAFEPOINTER] = low(state.safepointer.0);
-    slot[SAFEPOINTER + 1] = high(state.safepointer.0);
+    [slot[BOUND], slot[BOUND + 1]] = state.bound.0.to_le_bytes();
+    [slot[SAFEPOINTER], slot[SAFEPOINTER + 1]] = state.safepointer.0.to_le_bytes();
     slot[DOMAIN] = state.domain;
 }
 
-// What a call or a return gave, its answer as one number: written only when done.
-pub fn change(slot: &mut [u8], outcome: Outcome) -> u32
-    requires { length slot.old ≡ slot_bytes }
-    ensures { (result ≡ packed outcome.answer) × (slot.new ≡ after outcome.answer slot.old (sets slot.old run_part (run_as_bytes outcome.state))) }
+// What a set-up gives: the configuration stands in the slot already.
+pub fn set_up(slot: &mut Slot, state: State)
+    ensures { slot.new ≡ sets slot.old run_part (run_as_bytes state ++ (0 ∷ [])) }
 {
-    let answer = outcome.answer;
-    match answer {
-        Answer::Done(value) => {
-            let state = outcome.state;
-            write_run(slot, state);
-            return value as u32;
-        }
-        Answer::Refused(refusal) => return refused(refusal),
-    }
-}
-
-// What set-up gave: the configuration stands in the slot already.
-pub fn set_up(slot: &mut [u8], outcome: Outcome) -> u32
-    requires { length slot.old ≡ slot_bytes }
-    ensures { (result ≡ packed outcome.answer) × (slot.new ≡ after outcome.answer slot.old (sets slot.old run_part (run_as_bytes outcome.state ++ (0 ∷ [])))) }
-{
-    let answer = outcome.answer;
-    match answer {
-        Answer::Done(value) => {
-            let state = outcome.state;
-            write_run(slot, state);
-            slot[ZERO] = 0;
-            return value as u32;
-        }
-        Answer::Refused(refusal) => return refused(refusal),
-    }
+    change(slot, state);
+    slot[ZERO] = 0;
 }

@@ -1,8 +1,6 @@
 -- Lists whose numbers are all below a bound.
 -- Assumes nothing.
-use Prim.Native.Nat.{ℕ, zero, suc, ◌<◌}
-use mathlib.Core.List.{List, [], ◌∷◌}
-use lib.ListN.{replicate}
+use Rattle.std.proofs.Common.{ℕ, zero, suc, ◌<◌, List, [], ◌∷◌, replicate}
 
 pub data AllBelow (r : ℕ) : List ℕ → Type 0 where
   none : AllBelow r []

@@ -1,12 +1,8 @@
 -- Blocks and addresses: first the arithmetic over any block size above 0, then each law by the names of section 2.
 -- The block size is looked at in one line, block_bytes_pos.
 -- Assumes nothing.
-use Prim.Native.Nat.{ℕ, suc, ◌+◌, ◌-◌, ◌*◌, ◌/◌, ◌%◌, ◌<◌, ◌≤◌}
-use mathlib.Core.Path.{◌≡◌}
-use mathlib.Core.Bool.{true}
-use native.Mathlib.Nat.{suc-mul, mul-le-mul_right, div-mul-le_self, div-le_self, lt-div-mul-add, le-div_iff_mul-le, div-lt_iff_lt-mul, dvd_of_mod-eq-zero, dvd-sub, div-mul_cancel}
-use native.Mathlib.Omega.{arith}
-use borrow.Author.Tests.{eqb-true}
+use Rattle.std.proofs.Common.{ℕ, suc, ◌+◌, ◌-◌, ◌*◌, ◌/◌, ◌%◌, ◌<◌, ◌≤◌, ◌≡◌, true, suc-mul, mul-le-mul_right, div-mul-le_self, div-le_self, le-div_iff_mul-le, div-lt_iff_lt-mul, arith, eqb-true}
+use Rattle.std.proofs.Math.Nat.{lt-div-mul-add, dvd_of_mod-eq-zero, dvd-sub, div-mul_cancel}
 use Rattle.rules.specs.declared.RamByte.{RamByte}
 use Rattle.rules.specs.declared.Config.{Config}
 use Rattle.rules.specs.Memory.{block_bytes, start_of, block_of, is_multiple, blocks_for}

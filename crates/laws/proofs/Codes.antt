@@ -1,14 +1,9 @@
 -- The meaning of a code: free, the start of a segment of a domain, or a later block of one; and who is a domain, who a module.
 -- Assumes nothing.
-use Prim.Native.Nat.{ℕ, zero, suc, ◌+◌, ◌/◌, ◌%◌, ◌≤◌, ◌<◌}
-use mathlib.Core.Path.{◌≡◌, refl, sym, ap}
-use mathlib.Core.Logic.{◌≢◌}
-use mathlib.Core.Bool.{Bool, true, false, cond, and-false}
-use native.Mathlib.Nat.{add-zero, add-suc, suc-add}
-use native.Mathlib.Omega.{arith}
-use lib.ListN.{length, get_or, length-replicate, get_or-replicate}
-use borrow.Author.Tests.{eqb-true, eqb-false, leb-true, ltb-true, ne_eqb, eq-eqb, lt-ltb, le-leb, le-ltb}
-use lib.Dec.{eqb, ltb}
+use Rattle.std.proofs.Common.{ℕ, zero, suc, ◌+◌, ◌/◌, ◌%◌, ◌≤◌, ◌<◌, ◌≡◌, refl, sym, ap, ◌≢◌, Bool, true, false, cond, add-zero, add-suc, suc-add, arith, length, get_or, eqb-true, leb-true, ltb-true, ne_eqb, eq-eqb, lt-ltb, le-leb, le-ltb, eqb, ltb}
+use Rattle.std.proofs.Math.Bool.{and-false}
+use Rattle.std.proofs.Math.ListN.{length-replicate, get_or-replicate}
+use borrow.Author.Tests.{eqb-false}
 use Rattle.rules.specs.declared.Config.{Config}
 use Rattle.rules.specs.Memory.{Width, four_bits, Layout, width_of, layout_of, radix_by, radix, trusted, domain_by, module_by, is_domain, is_module, start_code_by, later_code_by, free_code_by, owner_by, start_code, later_code, free_code, owner_of, starts_segment, segment_codes, heap_block, safe_block, blocks}
 use Rattle.rules.specs.Code.{table_words, domain_words}
@@ -94,9 +89,6 @@ owner_free_by four_bits = refl
 start_trusted_by : (w : Width) → start_code_by w trusted ≡ free_code_by w
 start_trusted_by four_bits = refl
 
-owner_domain_by : (w : Width) (code : ℕ) → code < radix_by w → domain_by w (owner_by w code) ≡ true
-owner_domain_by four_bits code h = le-leb (owner_by four_bits code) trusted (omega arith)
-
 start≢free_by : (w : Width) (d : ℕ) → module_by w d ≡ true → start_code_by w d ≢ free_code_by w
 start≢free_by four_bits d h e = omega (arith, ltb-true d trusted h)
 
@@ -166,10 +158,6 @@ module _ (m : Layout) where
   pub start_trusted : start_code m trusted ≡ free_code m
   unfolding start_code free_code
   start_trusted = start_trusted_by m.width
-
-  pub owner_of-domain : (code : ℕ) → code < radix m → domain_by m.width (owner_of m code) ≡ true
-  unfolding owner_of radix
-  owner_of-domain = owner_domain_by m.width
 
   -- ---- codes differ
 

@@ -1,30 +1,17 @@
 -- Digits of a number to any radix r above 0, and digits of the cells of a list, p to a cell: reading after writing, bounds, and that the
 -- digits determine the number.
 -- Assumes nothing.
-use Prim.Native.Nat.{ℕ, zero, suc, ◌+◌, ◌*◌, ◌/◌, ◌%◌, ◌^◌, ◌≤◌, ◌<◌}
-use mathlib.Core.Path.{◌≡◌, refl, sym, ap}
-use mathlib.Core.Logic.{◌≢◌}
-use mathlib.Core.List.{List}
-use native.Mathlib.Nat.{mod-lt, div-add-mod', div-lt_iff_lt-mul, pow-suc, pow-zero, zero-lt-suc}
-use native.Mathlib.Decide.{ℕ_discrete}
-use native.Mathlib.Omega.{arith}
-use borrow.Author.Tests.{ltb-true, ltb-false}
-use lib.ListN.{length, get_or}
-use lib.Seq.{get_or-set_same, get_or-set_other, set_out}
-use lib.Dec.{ltb}
-use lib.Arith.{digits_lt, digits_div, digits_mod}
+use Rattle.std.proofs.Common.{ℕ, zero, suc, ◌/◌, ◌%◌, ◌^◌, ◌≤◌, ◌<◌, ◌≡◌, refl, sym, ap, ◌≢◌, List, mod-lt, div-add-mod', div-lt_iff_lt-mul, pow-suc, zero-lt-suc, arith, ltb-true, ltb-false, length, get_or, get_or-set_same, get_or-set_other, ltb}
+use Rattle.std.proofs.Math.Nat.{pow-zero}
+use Rattle.std.proofs.Math.Decide.{ℕ_discrete}
+use Rattle.std.proofs.Math.Seq.{set_out}
+use Rattle.std.proofs.Math.Arith.{digits_lt, digits_div, digits_mod}
 use Rattle.rules.specs.Memory.{digit, set_digit, cell_digit, set_cell_digit}
 use Rattle.laws.proofs.Tests.{by_test}
 
 -- place k of cells with p digits each is digit k % p of cell k / p, and no other place is
 pub place_by : (p k j : ℕ) → k / p ≡ j / p → k % p ≡ j % p → k ≡ j
 place_by p k j e f = cc (div-add-mod' k p, div-add-mod' j p)
-
-pub place_cell : (p j i : ℕ) → i < p → (j * p + i) / p ≡ j
-place_cell p j i h = digits_div j h
-
-pub place_digit : (p j i : ℕ) → i < p → (j * p + i) % p ≡ i
-place_digit p j i h = digits_mod j h
 
 module _ (r : ℕ) (pos : 0 < r) where
   pub digit_lt : (i b : ℕ) → digit r i b < r

@@ -1,12 +1,6 @@
 -- Frames: a word as two bytes, and the frame that a return reads is the frame that a call pushed.
 -- Assumes nothing.
-use Prim.Native.Nat.{ℕ, zero, suc, ◌+◌, ◌-◌, ◌*◌, ◌<◌, ◌≤◌}
-use mathlib.Core.Path.{◌≡◌, ◌∙◌}
-use mathlib.Core.List.{List, [], ◌∷◌, ◌++◌}
-use native.Mathlib.Omega.{arith}
-use lib.ListN.{length, get_or, length-append}
-use lib.Seq.{get_or-append-add}
-use borrow.Author.Tests.{ne_eqb, eq-eqb, le-ltb, le-leb}
+use Rattle.std.proofs.Common.{ℕ, zero, suc, ◌+◌, ◌-◌, ◌*◌, ◌<◌, ◌≤◌, ◌≡◌, ◌∙◌, List, [], ◌∷◌, ◌++◌, arith, length, get_or, length-append, get_or-append-add, ne_eqb, eq-eqb, le-ltb, le-leb}
 use Rattle.rules.specs.declared.RamByte.{RamByte}
 use Rattle.rules.specs.declared.FlashWord.{FlashWord}
 use Rattle.rules.specs.declared.Frame.{Frame}
@@ -80,11 +74,11 @@ Fits (Local site) = site.0 < 65536
 Fits (Cross site bound d) = (site.0 < 65536) × (bound.0 < 65536) × (d < 256)
 Fits Damage = Unit
 
-abbrev pub AllBytes : List ℕ → Type 0
+abbrev AllBytes : List ℕ → Type 0
 AllBytes [] = Unit
 AllBytes (x ∷ xs) = (x < 256) × AllBytes xs
 
-pub byte_at : (xs : List ℕ) → AllBytes xs → (i : ℕ) → get_or xs i 0 < 256
+byte_at : (xs : List ℕ) → AllBytes xs → (i : ℕ) → get_or xs i 0 < 256
 byte_at [] h i = omega arith
 byte_at (x ∷ xs) h zero = h.0
 byte_at (x ∷ xs) h (suc i) = byte_at xs h.1 i

@@ -13,8 +13,7 @@ pub mod Search
 pub mod Segments
 pub mod Bytes
 pub mod Slot
+pub mod Rows
 pub mod Operations
 pub mod ToC
-pub mod Rows
 pub mod SetUp
-pub mod Answers

@@ -1,16 +1,10 @@
 -- Codes packed in the bytes of the map: reading after writing, what a write leaves alone, and that the codes determine the bytes.
 -- Assumes nothing.
-use Prim.Native.Nat.{ℕ, zero, suc, ◌+◌, ◌-◌, ◌*◌, ◌%◌, ◌^◌, ◌≤◌, ◌<◌}
-use mathlib.Core.Path.{◌≡◌, refl, ◌∙◌}
-use mathlib.Core.Logic.{◌≢◌}
-use mathlib.Core.List.{List, [], ◌∷◌, ◌++◌}
-use native.Mathlib.Nat.{mod-lt, div-lt_iff_lt-mul, add-zero, add-suc, suc-add}
-use native.Mathlib.Omega.{arith}
-use lib.ListN.{length, get_or, length-set}
-use lib.Seq.{get_or-set_other}
+use Rattle.std.proofs.Common.{ℕ, zero, suc, ◌+◌, ◌-◌, ◌*◌, ◌%◌, ◌^◌, ◌≤◌, ◌<◌, ◌≡◌, refl, ◌∙◌, ◌≢◌, List, [], ◌∷◌, ◌++◌, mod-lt, div-lt_iff_lt-mul, add-zero, add-suc, suc-add, arith, length, get_or, length-set, get_or-set_other}
+use Rattle.std.proofs.Math.Arith.{digits_div, digits_mod}
 use Rattle.rules.specs.Memory.{Width, four_bits, Order, low_first, Layout, radix_by, per_byte_by, radix, per_byte, map_bytes_for, digit_by, map_byte, map_digit, code_of, set_code, set_codes}
 use Rattle.laws.proofs.Rounding.{up_holds, up_le, up_pos}
-use Rattle.laws.proofs.Digits.{digit_lt, digits_ext, place_by, place_cell, place_digit, cell_same, cell_other, cells_fit}
+use Rattle.laws.proofs.Digits.{digit_lt, digits_ext, place_by, cell_same, cell_other, cells_fit}
 use Rattle.laws.proofs.AllBelow.{AllBelow, none, one}
 
 -- ---- the numbers behind the map, each opened once for every width and every order
@@ -87,12 +81,12 @@ module _ (m : Layout) where
   map_byte_at : (j i : ℕ) → m.begin.0 ≤ j → i < per_byte m → map_byte m (block_in j i) ≡ j
   unfolding map_byte block_in
   map_byte_at j i h l =
-      omega (arith, place_cell (per_byte m) (j - m.begin.0) (digit_by m.order (per_byte m) i) (digit_by_lt m.order (per_byte m) i l))
+      omega (arith, digits_div (j - m.begin.0) (digit_by_lt m.order (per_byte m) i l))
 
   map_digit_at : (j i : ℕ) → i < per_byte m → map_digit m (block_in j i) ≡ i
   unfolding map_digit block_in
   map_digit_at j i l =
-      rw (place_digit (per_byte m) (j - m.begin.0) (digit_by m.order (per_byte m) i) (digit_by_lt m.order (per_byte m) i l))
+      rw (digits_mod (j - m.begin.0) (digit_by_lt m.order (per_byte m) i l))
       (digit_by-back m.order (per_byte m) i l)
 
 -- every byte of RAM is one

@@ -1,43 +1,30 @@
 -- The rows that every operation's table begins with, what is below them, and what every operation keeps.
 -- Assumes nothing.
-use Prim.Native.Nat.{ℕ}
-use mathlib.Core.Path.{◌≡◌, refl}
-use mathlib.Core.Bool.{Bool, true, false, not, ◌||◌, or-true}
-use mathlib.Core.List.{List}
-use lib.ListN.{length}
-use lib.Dec.{eqb}
-use borrow.Author.Tests.{eq-eqb, ne_eqb, eqb-true, not-false}
-use Rattle.rules.specs.declared.Config.{Config}
+use Rattle.std.proofs.Common.{ℕ, ◌≡◌, refl, true, false, not, ◌||◌, List, length, eqb, eq-eqb, ne_eqb, eqb-true, Ok, Err}
+use Rattle.std.proofs.Math.Bool.{or-true}
+use borrow.Author.Tests.{not-false}
 use Rattle.rules.specs.declared.State.{State}
 use Rattle.rules.specs.declared.Outcome.{Outcome}
 use Rattle.rules.specs.declared.Frame.{Frame}
 use Rattle.rules.specs.declared.Frame.TheVariants.{Local, Cross, Damage}
 use Rattle.rules.specs.declared.Operation.{Operation}
 use Rattle.rules.specs.declared.Operation.TheVariants.{Store, Call, Return, Malloc, Free, Change}
-use Rattle.rules.specs.declared.Answer.{Answer}
-use Rattle.rules.specs.declared.Answer.TheVariants.{Done, Refused}
+use Rattle.rules.specs.Answers.{Answer, Gives, give}
 use Rattle.rules.specs.declared.Refusal.TheVariants.{WrongSize, BadState}
 use Rattle.rules.specs.Memory.{ram_bytes, in_use, layout_of}
 use Rattle.rules.specs.State.{good_state}
-use Rattle.rules.specs.Answers.{Gives, give}
 use Rattle.rules.specs.Return.{read_frame, returned}
 use Rattle.rules.specs.Operations.{Lent, wrong_lent, Seen, seen_by, rows_of, state_after, ram_after, answer_by, operation_of}
 use Rattle.laws.proofs.Tests.{neither}
-use Rattle.laws.proofs.Answers.{row_passed}
+use Rattle.laws.proofs.Rows.{row_passed}
 
 -- ---- the two first rows
 
 module _ (s : State) (ram : List ℕ) (l : Lent) (op : Operation) where
-  pub wrong_lent_lem : wrong_lent l op ≡ true → Gives (record { answer = Refused WrongSize; state = s }) ram (operation_of s ram l op)
-  wrong_lent_lem h = rw h (refl, refl, refl)
-
-  pub wrong_ram : (length ram ≡ ram_bytes → ⊥) → Gives (record { answer = Refused WrongSize; state = s }) ram (operation_of s ram l op)
+  pub wrong_ram : (length ram ≡ ram_bytes → ⊥) → Gives (record { answer = Err WrongSize; state = s }) ram (operation_of s ram l op)
   wrong_ram h = rw (ne_eqb (length ram) ram_bytes h, or-true) (refl, refl, refl)
 
   module _ (lent : wrong_lent l op ≡ false) (size : length ram ≡ ram_bytes) where
-    pub bad_state : good_state s ≡ false → Gives (record { answer = Refused BadState; state = s }) ram (operation_of s ram l op)
-    bad_state g = rw (lent, eq-eqb (length ram) ram_bytes size, g) (refl, refl, refl)
-
     -- past them only the operation's own rows are left
     pub below : good_state s ≡ true → answer_by in_use s ram l op ≡ rows_of s (seen_by in_use s ram) l op
     below g = rw (lent, eq-eqb (length ram) ram_bytes size, g)
@@ -48,8 +35,8 @@ module _ (s : State) (ram : List ℕ) (l : Lent) (op : Operation) where
     gives_below g r ram' w = rw (below g) w
 
   -- what is done has passed both
-  pub done_below : (v : ℕ) → answer_by in_use s ram l op ≡ Done v
-      → (length ram ≡ ram_bytes) × (good_state s ≡ true) × (rows_of s (seen_by in_use s ram) l op ≡ Done v)
+  pub done_below : (v : ℕ) → answer_by in_use s ram l op ≡ Ok v
+      → (length ram ≡ ram_bytes) × (good_state s ≡ true) × (rows_of s (seen_by in_use s ram) l op ≡ Ok v)
   done_below v e =
       let (sizes, more) = row_passed (wrong_lent l op || not (eqb (length ram) ram_bytes)) WrongSize _ v e in
       let (good, rest) = row_passed (not (good_state s)) BadState (rows_of s (seen_by in_use s ram) l op) v more in
@@ -76,5 +63,5 @@ pub config_after : (s : State) (ram : List ℕ) (l : Lent) (op : Operation) → 
 config_after s ram l op = by (answer_by in_use s ram l op)
   where
     by : (x : Answer) → (give x s ram (state_after s (seen_by in_use s ram) op) (ram_after (layout_of s.config) s ram op)).state.config ≡ s.config
-    by (Done v) = config_stays s (seen_by in_use s ram) op
-    by (Refused r) = refl
+    by (Ok v) = config_stays s (seen_by in_use s ram) op
+    by (Err r) = refl

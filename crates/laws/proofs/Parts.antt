@@ -1,12 +1,8 @@
 -- A run of stores, in RAM and in a part of it that was lent: which bytes it changes, and what slices are after it.
 -- Assumes nothing.
-use Prim.Native.Nat.{ℕ, zero, suc, ◌+◌, ◌-◌, ◌<◌, ◌≤◌}
-use mathlib.Core.Path.{◌≡◌, refl, sym, ap, ◌∙◌}
-use mathlib.Core.List.{List, [], ◌∷◌, ◌++◌}
-use native.Mathlib.Omega.{arith}
-use native.Mathlib.Nat.{sub-zero, zero-sub, suc-sub-suc}
-use lib.ListN.{length, get_or, take, drop, set, length-set, length-append}
-use lib.Seq.{sets, slice, sets-eq, get_or-set_same, get_or-set_other, drop-set-add, take-set-le, take-set-lt, drop-set-lt, take-take, drop-drop, take-add, take-nil, take_at, drop_at, length-take-le}
+use Rattle.std.proofs.Common.{ℕ, zero, suc, ◌+◌, ◌-◌, ◌<◌, ◌≤◌, ◌≡◌, refl, sym, ap, ◌∙◌, List, [], ◌∷◌, ◌++◌, arith, length, get_or, take, drop, set, length-set, length-append, get_or-set_same, get_or-set_other, drop-set-lt, take-take, drop-drop, take-add, take_at, drop_at, length-take-le}
+use Rattle.std.proofs.Math.Nat.{sub-zero, zero-sub, suc-sub-suc}
+use Rattle.std.proofs.Math.Seq.{sets, slice, sets-eq, drop-set-add, take-set-le, take-set-lt, take-nil}
 use borrow.Rule.Slice.PartMut.{mid_of, put_mid, put_same}
 
 -- ---- a run of stores

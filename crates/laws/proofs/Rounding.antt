@@ -1,8 +1,7 @@
 -- Division rounded up, over any divisor above 0.
 -- Assumes nothing.
-use Prim.Native.Nat.{ℕ, suc, ◌+◌, ◌-◌, ◌*◌, ◌<◌, ◌≤◌}
-use native.Mathlib.Nat.{lt-div-mul-add, div-mul-le_self, div-lt_iff_lt-mul, suc-mul, le-mul_of_pos_right, lt_of_mul-lt-mul_right}
-use native.Mathlib.Omega.{arith}
+use Rattle.std.proofs.Common.{ℕ, suc, ◌+◌, ◌-◌, ◌*◌, ◌<◌, ◌≤◌, div-mul-le_self, div-lt_iff_lt-mul, suc-mul, le-mul_of_pos_right, lt_of_mul-lt-mul_right, arith}
+use Rattle.std.proofs.Math.Nat.{lt-div-mul-add}
 use Rattle.rules.specs.Memory.{divided_up}
 
 module _ {d : ℕ} (pos : 0 < d) where

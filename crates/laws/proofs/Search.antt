@@ -1,16 +1,10 @@
 -- Malloc's search: what a free run is, what the search finds and when it finds nothing, and its steps.
 -- Assumes nothing.
-use Prim.Native.Nat.{ℕ, zero, suc, ◌+◌, ◌-◌, ◌<◌, ◌≤◌}
-use mathlib.Core.Path.{◌≡◌, refl, sym, ap, ◌∙◌}
-use mathlib.Core.Bool.{true, false, true≢false}
-use native.Mathlib.Decide.{ℕ_discrete}
-use native.Mathlib.Omega.{arith}
-use lib.Dec.{leb}
-use borrow.Author.Tests.{ltb-true, leb-true, eqb-true, lt-ltb, le-leb, eq-eqb}
+use Rattle.std.proofs.Common.{ℕ, zero, suc, ◌+◌, ◌-◌, ◌<◌, ◌≤◌, ◌≡◌, refl, sym, ap, ◌∙◌, true, false, true≢false, arith, leb, ltb-true, leb-true, eqb-true, lt-ltb, le-leb, eq-eqb, Some, None}
+use Rattle.std.proofs.Math.Decide.{ℕ_discrete}
 use Rattle.laws.proofs.Tests.{by_test, both, and-true}
 use Rattle.rules.specs.declared.Block.{Block}
 use Rattle.rules.specs.declared.Config.{Config}
-use Rattle.rules.specs.declared.Found.TheVariants.{At, Nowhere}
 use Rattle.rules.specs.Memory.{heap_block, safe_block, in_heap, layout_of, Codes, free_code, is_free}
 use Rattle.rules.specs.Malloc.{block, free_run, first_run, lowest_run}
 
@@ -59,7 +53,7 @@ module _ (c : Config) (codes : Codes) where
 
   -- ---- the steps of the search
 
-  pub search_here : (n k left : ℕ) → free_run c codes k n ≡ true → first_run c codes n k (suc left) ≡ At (block k)
+  pub search_here : (n k left : ℕ) → free_run c codes k n ≡ true → first_run c codes n k (suc left) ≡ Some (block k)
   unfolding first_run
   search_here n k left h = rw h
 
@@ -81,27 +75,27 @@ module _ (c : Config) (codes : Codes) where
             rw e (search_skip n (suc k) left j (omega arith) (omega arith) f)
       ]
 
-  pub search_nowhere : (n k left : ℕ) → ((j : ℕ) → k ≤ j → free_run c codes j n ≡ false) → first_run c codes n k left ≡ Nowhere
+  pub search_nowhere : (n k left : ℕ) → ((j : ℕ) → k ≤ j → free_run c codes j n ≡ false) → first_run c codes n k left ≡ None
   unfolding first_run
   search_nowhere n k zero h = refl
   search_nowhere n k (suc left) h = search_next n k left (h k (omega arith)) ∙ search_nowhere n (suc k) left (λ j l. h j (omega arith))
 
   -- the blocks up to the safe stack area are too few
-  pub search_past : (n k left : ℕ) → 0 < n → safe_block c < k + n → first_run c codes n k left ≡ Nowhere
+  pub search_past : (n k left : ℕ) → 0 < n → safe_block c < k + n → first_run c codes n k left ≡ None
   search_past n k left p u =
       search_nowhere n k left
       (λ j l. by_test (free_run c codes j n) (λ t. absurd (let (_, i) = run_in_heap n j t p in omega arith)) (λ t. t))
 
   -- ---- what the search finds
 
-  first_found : (n k left : ℕ) (b : Block) → first_run c codes n k left ≡ At b
+  first_found : (n k left : ℕ) (b : Block) → first_run c codes n k left ≡ Some b
       → (k ≤ b.0) × (free_run c codes b.0 n ≡ true) × ((j : ℕ) → k ≤ j → j < b.0 → free_run c codes j n ≡ false)
   unfolding first_run
-  first_found n k zero b h = absurd (let z : ◌≡◌ {A = ℕ} 0 1 = cc in omega arith)
+  first_found n k zero b h = absurd cc
   first_found n k (suc left) b h =
       by_test (free_run c codes k n)
       (λ t.
-      let s : At (block k) ≡ At b = sym (search_here n k left t) ∙ h in
+      let s : Some (block k) ≡ Some b = sym (search_here n k left t) ∙ h in
       let e : block k ≡ b = cc in
       let q : k ≡ b.0 = ap (λ (x : Block). x.0) e in
       (omega arith, rw q at t, λ j l u. absurd (omega arith)))
@@ -109,34 +103,34 @@ module _ (c : Config) (codes : Codes) where
       let (l, r, m) = first_found n (suc k) left b (sym (search_next n k left t) ∙ h) in
       (omega arith, r, λ j g u. elim (ℕ_discrete j k) [ yes e ↦ rw e t | no d ↦ m j (omega arith) u ]))
 
-  first_nowhere : (n k left : ℕ) → first_run c codes n k left ≡ Nowhere → (j : ℕ) → k ≤ j → j < k + left → free_run c codes j n ≡ false
+  first_nowhere : (n k left : ℕ) → first_run c codes n k left ≡ None → (j : ℕ) → k ≤ j → j < k + left → free_run c codes j n ≡ false
   unfolding first_run
   first_nowhere n k zero h j l u = absurd (omega arith)
   first_nowhere n k (suc left) h j l u =
       by_test (free_run c codes k n)
       (λ t.
-      let s : At (block k) ≡ Nowhere = sym (search_here n k left t) ∙ h in
-      absurd (let z : ◌≡◌ {A = ℕ} 0 1 = cc in omega arith))
+      let s : Some (block k) ≡ None = sym (search_here n k left t) ∙ h in
+      absurd cc)
       (λ t.
       elim (ℕ_discrete j k) [
         | yes e ↦ rw e t
         | no d ↦ first_nowhere n (suc k) left (sym (search_next n k left t) ∙ h) j (omega arith) (omega arith)
       ])
 
-  pub found : (n : ℕ) (b : Block) → lowest_run c codes n ≡ At b
+  pub found : (n : ℕ) (b : Block) → lowest_run c codes n ≡ Some b
       → (heap_block c ≤ b.0) × (free_run c codes b.0 n ≡ true) × ((j : ℕ) → heap_block c ≤ j → j < b.0 → free_run c codes j n ≡ false)
   unfolding lowest_run
   found n b h = first_found n _ _ b h
 
-  pub found_in_heap : (n : ℕ) (b : Block) → lowest_run c codes n ≡ At b → 0 < n → b.0 + n ≤ safe_block c
+  pub found_in_heap : (n : ℕ) (b : Block) → lowest_run c codes n ≡ Some b → 0 < n → b.0 + n ≤ safe_block c
   found_in_heap n b h p = (run_in_heap n b.0 (found n b h).1 p).1
 
-  pub not_found : (n : ℕ) → lowest_run c codes n ≡ Nowhere → 0 < n → (j : ℕ) → free_run c codes j n ≡ false
+  pub not_found : (n : ℕ) → lowest_run c codes n ≡ None → 0 < n → (j : ℕ) → free_run c codes j n ≡ false
   unfolding lowest_run
   not_found n h p j =
       by_test (free_run c codes j n)
       (λ t. let (l, u) = run_in_heap n j t p in first_nowhere n _ _ h j l (omega arith))
       (λ t. t)
 
-  pub run_found : (n j : ℕ) → free_run c codes j n ≡ true → 0 < n → lowest_run c codes n ≡ Nowhere → ⊥
+  pub run_found : (n j : ℕ) → free_run c codes j n ≡ true → 0 < n → lowest_run c codes n ≡ None → ⊥
   run_found n j f p h = true≢false (sym f ∙ not_found n h p j)

@@ -1,12 +1,7 @@
 -- Segments: how many blocks continue one, and the steps of counting them.
 -- Assumes nothing.
-use Prim.Native.Nat.{ℕ, zero, suc, ◌+◌, ◌-◌, ◌<◌, ◌≤◌}
-use mathlib.Core.Path.{◌≡◌, refl}
-use mathlib.Core.Logic.{◌≢◌}
-use native.Mathlib.Decide.{ℕ_discrete}
-use native.Mathlib.Omega.{arith}
-use lib.Dec.{ltb}
-use borrow.Author.Tests.{eq-eqb, ne_eqb, ltb-true, ltb-false}
+use Rattle.std.proofs.Common.{ℕ, zero, suc, ◌+◌, ◌-◌, ◌<◌, ◌≤◌, ◌≡◌, refl, ◌≢◌, arith, ltb, eq-eqb, ne_eqb, ltb-true, ltb-false}
+use Rattle.std.proofs.Math.Decide.{ℕ_discrete}
 use Rattle.rules.specs.declared.Config.{Config}
 use Rattle.rules.specs.Memory.{safe_block, layout_of, Codes, later_code, owner_of}
 use Rattle.rules.specs.Free.{continued, segment_blocks}

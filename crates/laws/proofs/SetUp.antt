@@ -1,11 +1,6 @@
 -- RAM after set-up: as long as before, bytes if it was bytes, and at every place of the map the code that set-up writes there.
 -- Assumes nothing.
-use Prim.Native.Nat.{ℕ, ◌+◌, ◌*◌, ◌<◌}
-use mathlib.Core.Path.{◌≡◌, ◌∙◌}
-use mathlib.Core.List.{List}
-use native.Mathlib.Nat.{zero-add}
-use native.Mathlib.Omega.{arith}
-use lib.ListN.{length, get_or}
+use Rattle.std.proofs.Common.{ℕ, ◌+◌, ◌*◌, ◌<◌, ◌≡◌, ◌∙◌, List, zero-add, arith, length, get_or}
 use Rattle.rules.specs.declared.Config.{Config}
 use Rattle.rules.specs.Memory.{ram_bytes, layout_of, per_byte, map_bytes, code_of}
 use Rattle.rules.specs.SetUp.{set_up_code, set_up_codes, set_up_ram}

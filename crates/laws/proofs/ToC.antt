@@ -1,25 +1,18 @@
 -- What a function called from C gives, from what the operation gave it (document 02, Ask 1).
 -- Assumes nothing.
-use Prim.Native.Nat.{ℕ}
-use mathlib.Core.Path.{◌≡◌, refl, sym, ◌∙◌}
-use mathlib.Core.Bool.{Bool, true, false, not, and-false}
-use mathlib.Core.List.{List, [], ◌∷◌, ◌++◌}
-use native.Mathlib.Omega.{arith}
-use lib.ListN.{length, get_or}
-use lib.Seq.{sets}
-use lib.Dec.{eqb}
-use borrow.Author.Tests.{eqb-true, not-false, eq-eqb, ne_eqb}
+use Rattle.std.proofs.Common.{ℕ, ◌≡◌, refl, sym, ◌∙◌, Bool, true, false, not, List, [], ◌∷◌, ◌++◌, length, get_or, eqb, eqb-true, eq-eqb, ne_eqb, Ok, Err}
+use Rattle.std.proofs.Math.Bool.{and-false}
+use Rattle.std.proofs.Math.Seq.{sets}
+use borrow.Author.Tests.{not-false}
 use Rattle.rules.specs.declared.Config.{Config}
 use Rattle.rules.specs.declared.State.{State}
 use Rattle.rules.specs.declared.Outcome.{Outcome}
 use Rattle.rules.specs.declared.Operation.{Operation}
-use Rattle.rules.specs.declared.Answer.{Answer}
-use Rattle.rules.specs.declared.Answer.TheVariants.{Done, Refused}
+use Rattle.rules.specs.Answers.{Answer, Given, Gives, give}
 use Rattle.rules.specs.declared.Refusal.TheVariants.{WrongSize, BadState}
 use Rattle.rules.specs.Memory.{ram_bytes, in_use, layout_of}
 use Rattle.rules.specs.Code.{table_words}
 use Rattle.rules.specs.State.{good_state, fresh, zeros}
-use Rattle.rules.specs.Answers.{Given, Gives, give}
 use Rattle.rules.specs.SetUp.{set_up_answer, set_up_ram, set_up_of}
 use Rattle.rules.specs.Operations.{lending, nothing, lent_table, wrong_lent, seen_by, state_after, ram_after, answer_by, operation_of}
 use Rattle.rules.specs.Slot.{slot_bytes, run_part, zero_part, config_in, state_in, run_as_bytes, slot_of, packed, GivesToC, to_c, wrong_size, c_set_up_of, table_bytes, table_in, wrong_table, c_operation, c_operation_of}
@@ -30,12 +23,12 @@ use Rattle.laws.proofs.Operations.{config_stays}
 
 -- the slot after an answer: as it was after a refusal, else as it is when done
 abbrev pub after : Answer → List ℕ → List ℕ → List ℕ
-after (Done v) slot done = done
-after (Refused r) slot done = slot
+after (Ok v) slot done = done
+after (Err r) slot done = slot
 
 after_same : (a : Answer) (slot : List ℕ) → slot ≡ after a slot slot
-after_same (Done v) slot = refl
-after_same (Refused r) slot = refl
+after_same (Ok v) slot = refl
+after_same (Err r) slot = refl
 
 -- ---- the tests before an operation
 
@@ -67,14 +60,14 @@ module _ {slot ram : List ℕ} (h : Ready slot ram) where
 
 -- the refusals of these tests, as a number, for any operation whose table has its length
 module _ (slot ram : List ℕ) (n : ℕ) (table : List ℕ) (op : Operation) (right : wrong_table table op ≡ false) where
-  pub refused_size : wrong_size slot ram ≡ true → n ≡ packed (Refused WrongSize) → GivesToC n slot ram (c_operation_of slot ram table op)
+  pub refused_size : wrong_size slot ram ≡ true → n ≡ packed (Err WrongSize) → GivesToC n slot ram (c_operation_of slot ram table op)
   refused_size w e = rw (right, w) (e, refl, refl)
 
-  pub refused_zero : wrong_size slot ram ≡ false → (get_or slot zero_part 0 ≡ 0 → ⊥) → n ≡ packed (Refused BadState)
+  pub refused_zero : wrong_size slot ram ≡ false → (get_or slot zero_part 0 ≡ 0 → ⊥) → n ≡ packed (Err BadState)
       → GivesToC n slot ram (c_operation_of slot ram table op)
   refused_zero w z e = rw (right, w, ne_eqb (get_or slot zero_part 0) 0 z) (e, refl, refl)
 
-  pub refused_state : wrong_size slot ram ≡ false → get_or slot zero_part 0 ≡ 0 → good_state (state_in slot) ≡ false → n ≡ packed (Refused BadState)
+  pub refused_state : wrong_size slot ram ≡ false → get_or slot zero_part 0 ≡ 0 → good_state (state_in slot) ≡ false → n ≡ packed (Err BadState)
       → GivesToC n slot ram (c_operation_of slot ram table op)
   refused_state w z b e =
       rw (right, w, eq-eqb (get_or slot zero_part 0) 0 z, right_table table op, eq-eqb (length ram) ram_bytes (right_size slot ram w).1, b) (e, refl, refl)
@@ -88,8 +81,8 @@ passed wrong slot ram w z g = rw (w, eq-eqb (get_or slot zero_part 0) 0 z)
 to_c_lem : (a : Answer) (s s' : State) (slot ram slot' ram' done : List ℕ) (r : Outcome) (n : ℕ) (pack : State → List ℕ)
     → Gives r ram' (give a s ram s' done) → n ≡ packed r.answer → slot' ≡ after r.answer slot (pack r.state)
     → slot_of s' ≡ pack s' → GivesToC n slot' ram' (to_c slot ram (give a s ram s' done))
-to_c_lem (Done v) s s' slot ram slot' ram' done r n pack (e, f, g) p w h = (rw e at p, (rw (e, f) at w) ∙ sym h, g)
-to_c_lem (Refused q) s s' slot ram slot' ram' done r n pack (e, f, g) p w h = (rw e at p, rw e at w, g)
+to_c_lem (Ok v) s s' slot ram slot' ram' done r n pack (e, f, g) p w h = (rw e at p, (rw (e, f) at w) ∙ sym h, g)
+to_c_lem (Err q) s s' slot ram slot' ram' done r n pack (e, f, g) p w h = (rw e at p, rw e at w, g)
 
 -- set-up: "Set-up reads only the configuration from the slot."
 pub set_up_to_c : (slot ram slot' ram' : List ℕ) (r : Outcome) (n : ℕ) → Bytes slot → wrong_size slot ram ≡ false

@@ -3,4 +3,4 @@ pub mod Areas
 pub mod Halves
 pub mod Runs
 pub mod Search
-pub mod Within
+pub mod Steps

@@ -10,7 +10,7 @@ use native.Mathlib.Decide.{ℕ_discrete}
 use native.Mathlib.Omega.{arith}
 use lib.ListN.{get_or}
 use Rattle.rules.specs.declared.Config.{Config}
-use Rattle.rules.specs.declared.Found.TheVariants.{At}
+use Rattle.std.specs.Prelude.{Some}
 use Rattle.rules.specs.Memory.{radix, per_byte, layout_of, codes_of, heap_block, safe_block, map_byte, code_of, free_code, is_free}
 use Rattle.address.specs.Places.{to_whole}
 use Rattle.rules.specs.Malloc.{block, first_run, lowest_run}
@@ -101,16 +101,16 @@ module _ (c : Config) (ram : List ℕ) (n : ℕ) where
         }
 
     -- the run is complete, or is with the first block of a byte
-    found : start + n ≤ safe_block c → 0 < n → ((j : ℕ) → start ≤ j → j < start + n → code_of (layout_of c) ram j ≡ free_code (layout_of c)) → lowest_run c (codes_of c ram) n ≡ At (block start)
+    found : start + n ≤ safe_block c → 0 < n → ((j : ℕ) → start ≤ j → j < start + n → code_of (layout_of c) ram j ≡ free_code (layout_of c)) → lowest_run c (codes_of c ram) n ≡ Some (block start)
     found fits some all =
         let left : safe_block c - start ≡ suc (safe_block c - (start + 1)) = omega arith in
         let free = free_run_lem c (codes_of c ram) n start (λ j l u. block_free c (codes_of c ram) j (omega (arith, s.in_heap)) (omega arith) (all j l u)) in
         s.same ∙ rw left (search_here c (codes_of c ram) n start (safe_block c - (start + 1)) free)
 
-    pub sought_found : n ≤ run → start + n ≤ safe_block c → 0 < n → lowest_run c (codes_of c ram) n ≡ At (block start)
+    pub sought_found : n ≤ run → start + n ≤ safe_block c → 0 < n → lowest_run c (codes_of c ram) n ≡ Some (block start)
     sought_found all fits some = found fits some (λ j l u. s.free j l (omega arith))
 
-    pub sought_completed : run + 1 ≡ n → get_or ram at 0 % radix (layout_of c) ≡ free_code (layout_of c) → start + n ≤ safe_block c → lowest_run c (codes_of c ram) n ≡ At (block start)
+    pub sought_completed : run + 1 ≡ n → get_or ram at 0 % radix (layout_of c) ≡ free_code (layout_of c) → start + n ≤ safe_block c → lowest_run c (codes_of c ram) n ≡ Some (block start)
     unfolding radix free_code
     sought_completed last first fits =
         let low = low_half c.bot ram (start + run) at s.place s.even in

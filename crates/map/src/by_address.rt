@@ -7,18 +7,11 @@ ghost use Rattle.rules.specs.Free.{segment_blocks};
 ghost use Rattle.map.specs.Runs.{run_of};
 
 use address::{block_of, start_of};
-use rules::{Config, Found, RamByte};
-
-// Where malloc's search ends, by the run's first address.
-#[derive(Clone, Copy)]
-pub enum Run {
-    At(RamByte),
-    Nowhere,
-}
+use good::GoodConfig;
+use rules::{Config, Ram, RamByte};
 
 // The code of the block that an address lies in.
-pub fn code_at(config: Config, ram: &[u8], a: RamByte) -> u8
-    requires whole_ram { length ram.now ≡ ram_bytes }
+pub fn code_at(config: Config, ram: &Ram, a: RamByte) -> u8
     requires from_bot { config.bot.0 ≤ a.0 }
     requires in_ram { map_byte (layout_of config) (block_of config a) < ram_bytes }
     ensures { result ≡ code_of (layout_of config) ram.now (block_of config a) }
@@ -27,8 +20,7 @@ pub fn code_at(config: Config, ram: &[u8], a: RamByte) -> u8
 }
 
 // Its owner.
-pub fn owner_at(config: Config, ram: &[u8], a: RamByte) -> u8
-    requires whole_ram { length ram.now ≡ ram_bytes }
+pub fn owner_at(config: Config, ram: &Ram, a: RamByte) -> u8
     requires from_bot { config.bot.0 ≤ a.0 }
     requires in_ram { map_byte (layout_of config) (block_of config a) < ram_bytes }
     ensures { result ≡ owner_of (layout_of config) (code_of (layout_of config) ram.now (block_of config a)) }
@@ -41,24 +33,21 @@ pub fn is_first(config: Config, a: RamByte) -> bool
     requires { config.bot.0 ≤ a.0 }
     ensures { result ≡ eqb (start_of config (block_of config a)) a.0 }
 {
-    start_of(config, block_of(config, a)).0 == a.0
+    start_of(config, block_of(config, a)) == a
 }
 
 // How many blocks a domain's segment has that starts with the block of a heap address.
-pub fn segment_blocks(config: Config, ram: &[u8], a: RamByte, domain: u8) -> u16
-    requires whole_ram { length ram.now ≡ ram_bytes }
-    requires is_good { good_config config ≡ true }
-    requires from_heap { config.heap.0 ≤ a.0 }
-    requires below_safe { a.0 < config.safe.0 }
-    requires owned { owner_of (layout_of config) (code_of (layout_of config) ram.now (block_of config a)) ≡ domain }
-    ensures { result ≡ segment_blocks config (codes_of config ram.now) (block_of config a) }
+pub fn segment_blocks(good: GoodConfig, ram: &Ram, a: RamByte, domain: u8) -> u16
+    requires from_heap { good.config.heap.0 ≤ a.0 }
+    requires below_safe { a.0 < good.config.safe.0 }
+    requires owned { owner_of (layout_of good.config) (code_of (layout_of good.config) ram.now (block_of good.config a)) ≡ domain }
+    ensures { result ≡ segment_blocks good.config (codes_of good.config ram.now) (block_of good.config a) }
 {
-    crate::segment_blocks(config, ram, block_of(config, a), domain)
+    crate::segment_blocks(good, ram, block_of(good.config, a), domain)
 }
 
 // A run of n blocks from that of an address on: its first code, then the later one.
-pub fn set_run(config: Config, ram: &mut [u8], a: RamByte, n: u16, first: u8, later: u8)
-    requires whole_ram { length ram.old ≡ ram_bytes }
+pub fn set_run(config: Config, ram: &mut Ram, a: RamByte, n: u16, first: u8, later: u8)
     requires from_bot { config.bot.0 ≤ a.0 }
     requires some { 0 < n }
     requires fits { map_byte (layout_of config) (block_of config a + (n - 1)) < ram_bytes }
@@ -70,8 +59,7 @@ pub fn set_run(config: Config, ram: &mut [u8], a: RamByte, n: u16, first: u8, la
 }
 
 // n blocks from that of an address on made free.
-pub fn set_free(config: Config, ram: &mut [u8], a: RamByte, n: u16)
-    requires whole_ram { length ram.old ≡ ram_bytes }
+pub fn set_free(config: Config, ram: &mut Ram, a: RamByte, n: u16)
     requires from_bot { config.bot.0 ≤ a.0 }
     requires some { 0 < n }
     requires fits { map_byte (layout_of config) (block_of config a + (n - 1)) < ram_bytes }
@@ -81,15 +69,10 @@ pub fn set_free(config: Config, ram: &mut [u8], a: RamByte, n: u16)
 }
 
 // The lowest run of n free heap blocks.
-pub fn lowest_run(config: Config, ram: &[u8], n: u16) -> Run
-    requires whole_ram { length ram.now ≡ ram_bytes }
-    requires is_good { good_config config ≡ true }
+pub fn lowest_run(good: GoodConfig, ram: &Ram, n: u16) -> Option<RamByte>
     requires some { 0 < n }
-    ensures { result ≡ run_of config (lowest_run config (codes_of config ram.now) n) }
+    ensures { result ≡ run_of good.config (lowest_run good.config (codes_of good.config ram.now) n) }
 {
-    let found = crate::lowest_run(config, ram, n);
-    match found {
-        Found::At(k) => Run::At(start_of(config, k)),
-        Found::Nowhere => Run::Nowhere,
-    }
+    let k = crate::lowest_run(good, ram, n)?;
+    Some(start_of(good.config, k))
 }

@@ -1,7 +1,6 @@
--- What several proofs of this crate cite: what an operation gives by its own rows, and for each what its check found and what it then does.
-pub mod Gives
+-- What the code asks of a good state, and what each operation finds and gives.
+pub mod Good
 pub mod Acts
 pub mod SafeStack
 pub mod CallRows
-pub mod Calls
 pub mod Returns

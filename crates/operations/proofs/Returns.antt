@@ -1,14 +1,14 @@
--- Return: the frame that is read, the frame with its damage told, and what a return gives.
+-- Return: the frame that is read, and what a return gives.
 -- Assumes nothing.
-use Prim.Native.Nat.{ℕ, ◌+◌, ◌-◌, ◌<◌, ◌≤◌}
+use Prim.Native.Nat.{ℕ, ◌-◌, ◌≤◌}
 use mathlib.Core.Path.{◌≡◌, refl}
 use mathlib.Core.Bool.{Bool, true, false, cond}
 use mathlib.Core.List.{List}
 use native.Mathlib.Omega.{arith}
-use lib.ListN.{length, get_or, take}
+use lib.ListN.{length, get_or}
 use lib.Dec.{eqb, leb, ltb}
 use lib.Seq.{slice, length-slice}
-use borrow.Author.Tests.{eq-eqb, ne_eqb, ltb-false, leb-true}
+use borrow.Author.Tests.{eq-eqb, ltb-false, leb-true}
 use Rattle.rules.specs.declared.RamByte.{RamByte}
 use Rattle.rules.specs.declared.FlashWord.{FlashWord}
 use Rattle.rules.specs.declared.State.{State}
@@ -16,21 +16,19 @@ use Rattle.rules.specs.declared.Frame.{Frame}
 use Rattle.rules.specs.declared.Frame.TheVariants.{Local, Cross, Damage}
 use Rattle.rules.specs.declared.Operation.TheVariants.{Return}
 use Rattle.rules.specs.declared.Outcome.{Outcome}
-use Rattle.rules.specs.declared.Answer.{Answer}
-use Rattle.rules.specs.declared.Answer.TheVariants.{Done, Refused}
-use Rattle.rules.specs.declared.Refusal.TheVariants.{NoFrame, DamagedFrame}
+use Rattle.rules.specs.Answers.{Answer}
+use Rattle.std.specs.Prelude.{Ok, Err}
+use Rattle.rules.specs.declared.Refusal.TheVariants.{NoFrame}
 use Rattle.rules.specs.Memory.{ram_bytes, trusted}
-use Rattle.rules.specs.State.{ram_byte, good_state, running}
+use Rattle.rules.specs.State.{good_state}
 use Rattle.rules.specs.Answers.{Gives, give}
 use Rattle.rules.specs.Call.{local_tag, frame_bytes}
-use Rattle.rules.specs.Return.{read_frame, top_frame, damaged, return_rows, returned}
+use Rattle.rules.specs.Return.{read_frame, top_frame, return_rows, returned}
 use Rattle.rules.specs.Operations.{nothing, return_of}
 use Rattle.laws.proofs.Good.{good_state-facts, domain≤trusted}
 use Rattle.laws.proofs.Operations.{gives_below}
-use Rattle.laws.proofs.Parts.{take_part}
-use Rattle.operations.specs.ReturnRows.{caller_of, judged, handed, returning}
-use Rattle.operations.proofs.Gives.{refused}
-use Rattle.operations.proofs.SafeStack.{Area, lent}
+use Rattle.operations.specs.ReturnRows.{caller_of, handed, returning}
+use Rattle.operations.proofs.SafeStack.{Area}
 
 -- ---- the frame that is read
 
@@ -66,62 +64,15 @@ module _ (s : State) (ram : List ℕ) (f : Frame) (is : f ≡ top_frame s ram) w
         rw is
         (read_by (λ (f : Frame). length (frame_bytes f) ≤ s.safepointer.0) used (omega arith) (λ w h. omega arith) (λ w b d h t. omega arith))
 
--- what is read from the part that is lent
-pub frame_read : (s : State) (ram : List ℕ) → Area s ram → read_frame (take (s.safepointer.0 - s.config.safe.0) (lent s ram)) ≡ top_frame s ram
-frame_read s ram a =
-    let e : s.config.safe.0 + (s.safepointer.0 - s.config.safe.0) ≡ s.safepointer.0 = omega arith in
-    rw (take_part s.config.safe.0 s.config.top.0 (s.safepointer.0 - s.config.safe.0) ram (omega arith), e)
-
--- ---- the frame with its damage told
-
-kept_local : (t : Bool) (f : Frame) (w : FlashWord) → cond t Damage f ≡ Local w → (t ≡ false) × (f ≡ Local w)
-kept_local true f w h = absurd (let z : ◌≡◌ {A = ℕ} 0 1 = cc in omega arith)
-kept_local false f w h = (refl, h)
-
-kept_cross : (t : Bool) (f : Frame) (w : FlashWord) (b : RamByte) (d : ℕ) → cond t Damage f ≡ Cross w b d → (t ≡ false) × (f ≡ Cross w b d)
-kept_cross true f w b d h = absurd (let z : ◌≡◌ {A = ℕ} 0 1 = cc in omega arith)
-kept_cross false f w b d h = (refl, h)
-
-told_damage : (s : State) (f : Frame) (t : Bool) → damaged s f ≡ t → cond t Damage f ≡ Damage → damaged s f ≡ true
-told_damage s f true e h = e
-told_damage s f false e h = rw h
-
--- ---- what is handed back for it
-
-module _ (s : State) (f : Frame) where
-  module _ (w : FlashWord) (h : judged s f ≡ Local w) where
-    pub local_below : length (frame_bytes f) ≤ s.safepointer.0 → 3 ≤ s.safepointer.0
-    local_below fits = rw (kept_local (damaged s f) f w h).1 at fits
-
-    pub local_back : s.config.safe.0 < s.safepointer.0 → (pointer : RamByte) → pointer ≡ ram_byte (s.safepointer.0 - 3)
-        → record { answer = Done w.0; state = running s s.domain s.bound pointer } ≡ returning s f
-    local_back some pointer p =
-        let (t, e) = kept_local (damaged s f) f w h in
-        rw (ne_eqb s.safepointer.0 s.config.safe.0 (omega arith), t, e, p)
-
-  module _ (w : FlashWord) (b : RamByte) (d : ℕ) (h : judged s f ≡ Cross w b d) where
-    pub cross_below : length (frame_bytes f) ≤ s.safepointer.0 → 5 ≤ s.safepointer.0
-    cross_below fits = rw (kept_cross (damaged s f) f w b d h).1 at fits
-
-    pub cross_back : s.config.safe.0 < s.safepointer.0 → (pointer : RamByte) → pointer ≡ ram_byte (s.safepointer.0 - 5)
-        → record { answer = Done w.0; state = running s d b pointer } ≡ returning s f
-    cross_back some pointer p =
-        let (t, e) = kept_cross (damaged s f) f w b d h in
-        rw (ne_eqb s.safepointer.0 s.config.safe.0 (omega arith), t, e, p)
-
-  pub damage_back : s.config.safe.0 < s.safepointer.0 → judged s f ≡ Damage → record { answer = Refused DamagedFrame; state = s } ≡ returning s f
-  damage_back some h =
-      rw (ne_eqb s.safepointer.0 s.config.safe.0 (omega arith), told_damage s f (damaged s f) refl h)
-
 -- ---- what a return gives
 
 handed_gives : (a : Answer) (s s' : State) (ram : List ℕ) → Gives (handed a s s') ram (give a s ram s' ram)
-handed_gives (Done v) s s' ram = (refl, refl, refl)
-handed_gives (Refused r) s s' ram = (refl, refl, refl)
+handed_gives (Ok v) s s' ram = (refl, refl, refl)
+handed_gives (Err r) s s' ram = (refl, refl, refl)
 
 module _ (s : State) (ram : List ℕ) (ready : (length ram ≡ ram_bytes) × (good_state s ≡ true)) where
-  pub gives_no_frame : s.safepointer.0 ≡ s.config.safe.0 → Gives (record { answer = Refused NoFrame; state = s }) ram (return_of s ram)
-  gives_no_frame h = refused s ram nothing Return refl ready (Refused NoFrame) (rw (eq-eqb s.safepointer.0 s.config.safe.0 h)) NoFrame refl
+  pub gives_no_frame : s.safepointer.0 ≡ s.config.safe.0 → Gives (record { answer = Err NoFrame; state = s }) ram (return_of s ram)
+  gives_no_frame h = gives_below s ram nothing Return refl ready.0 ready.1 _ ram (rw (eq-eqb s.safepointer.0 s.config.safe.0 h) (refl, refl, refl))
 
   -- what was handed back for the frame below the safe pointer is what the rule gives
   pub gives_returning : (f : Frame) → f ≡ top_frame s ram → (r : Outcome) → r ≡ returning s f → Gives r ram (return_of s ram)

@@ -7,8 +7,5 @@ use rules::{FlashWord, Range};
 pub fn in_range(range: Range, word: FlashWord) -> bool
     ensures { result ≡ in_range range word }
 {
-    if word.0 < range.start.0 {
-        return false;
-    }
-    word.0 < range.end.0
+    (range.start..range.end).contains(&word)
 }

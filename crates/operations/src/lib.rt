@@ -1,201 +1,143 @@
-// What set-up and the operations do once RAM has its length and the configuration or the state is good: the rows below the first two, for a
-// return below 13. The runtime and the layer for C make those tests, each on the state as it comes to them.
+// What set-up and the operations do once RAM has its length and the configuration or the state is good, which their types say: the rows below
+// the first two, for a return below 13. Document 01 hands state and RAM to each, so they are no one value. The runtime and the layer for C make those tests, each on the state as it comes to them.
 #![tactic(auto)]
 
-ghost use Rattle.std.specs.Prelude.{◌≡◌, true, ◌≤◌, ◌<◌, length};
-ghost use Rattle.rules.specs.Memory.{ram_bytes};
-ghost use Rattle.rules.specs.State.{good_config, good_state};
+ghost use Rattle.std.specs.Prelude.{◌≡◌, ◌≤◌, ◌<◌, length, Ok};
 ghost use Rattle.rules.specs.Code.{range_of};
-ghost use Rattle.rules.specs.Answers.{Gives};
+ghost use Rattle.rules.specs.Answers.{Gives, kept, moved};
 ghost use Rattle.rules.specs.SetUp.{set_up_of};
 ghost use Rattle.rules.specs.Call.{frame_bytes};
 ghost use Rattle.rules.specs.Operations.{store_of, call_of, malloc_of, free_of, change_of};
 ghost use Rattle.operations.specs.CallRows.{table_of, CalledCode};
 ghost use Rattle.operations.specs.ReturnRows.{caller_of, returning};
 
-mod call_check;
+mod calls;
 mod code_ranges;
 pub mod looked_at;
-mod malloc_check;
-mod return_check;
-mod segment_check;
+mod segments;
 mod states;
 mod store_check;
 
-use address::domains::is_module;
-use malloc_check::Place;
+use address::domains::{TRUSTED, is_module};
+use code_ranges::in_range;
+use good::{GoodConfig, GoodState};
 use map::by_address;
-use rules::{Answer, Config, FlashWord, Frame, Outcome, RamByte, Range, Refusal, State};
+use rules::{Answer, Done, FlashWord, Frame, Ram, RamByte, Range, Refusal, State};
 
 // Section 2: set-up with a configuration that is good.
-pub fn set_up(config: Config, ram: &mut [u8]) -> Outcome
-    requires { (length ram.old ≡ ram_bytes) × (good_config config ≡ true) }
-    ensures { Gives result ram.new (set_up_of config ram.old) }
+pub fn set_up(good: GoodConfig, ram: &mut Ram) -> State
+    ensures { Gives (kept (Ok 0) result) ram.new (set_up_of good.config ram.old) }
 {
-    map::set_up_map(config, ram);
-    Outcome {
-        answer: Answer::Done(0),
-        state: states::fresh(config),
-    }
+    map::set_up_map(good, ram);
+    states::fresh(good.config)
 }
 
 // Section 5: the operations.
-pub fn store(state: State, ram: &mut [u8], address: RamByte, byte: u8) -> Outcome
-    requires { (length ram.old ≡ ram_bytes) × (good_state state ≡ true) }
-    ensures { Gives result ram.new (store_of state ram.old address byte) }
+pub fn store(good: GoodState, ram: &mut Ram, address: RamByte, byte: u8) -> Answer
+    ensures { Gives (kept result good.state) ram.new (store_of good.state ram.old address byte) }
 {
-    let answer = store_check::answer(state, ram, address);
-    match answer {
-        Answer::Done(_) => {
-            ram[address.0 as usize] = byte;
-            return Outcome { answer, state };
-        }
-        Answer::Refused(_) => return Outcome { answer, state },
-    }
+    store_check::answer(good, ram, address)?;
+    ram[address.0 as usize] = byte;
+    Ok(0)
 }
 
 // A call is handed what it looks at: the code ranges of the current domain and of the called one, and the word of its target; a local call,
-// or one past the tables, looks at the first alone. A frame is written to the safe stack area, which is lent to the frame writer, and to no
-// other byte. A refusal is made anew: to hand on the answer that was matched on costs more.
+// or one past the tables, looks at the first alone. Each is handed by itself: only_call_with is about each.
+#[tactic(auto, using(crate::proofs::CallRows::from_outside))]
 pub fn call_with(
-    mut state: State,
-    ram: &mut [u8],
+    good: GoodState,
+    ram: &mut Ram,
     code: Range,
     called: Range,
     word: u16,
     target: FlashWord,
     site: FlashWord,
     pointer: RamByte,
-) -> Outcome
-    requires { (length ram.old ≡ ram_bytes) × (good_state state ≡ true) × (code ≡ range_of state.config state.domain) × CalledCode state target called }
-    ensures { Gives result ram.new (call_of state ram.old (table_of word) target site pointer) }
+) -> Result<Done, Refusal>
+    requires { (code ≡ range_of good.state.config good.state.domain) × CalledCode good.state target called }
+    ensures { Gives (moved result good.state) ram.new (call_of good.state ram.old (table_of word) target site pointer) }
 {
-    let answer = call_check::answer(state, code, called, word, target, site, pointer);
-    match answer {
-        Answer::Done(_) => {
-            let config = state.config;
-            let safe = config.safe.0 as usize;
-            let top = config.top.0 as usize;
-            let used = state.safepointer.0 - config.safe.0;
-            if target.0 < config.jt.0 {
-                frames::push(&mut ram[safe..top], used, Frame::Local(site));
-                state.safepointer = address::above(state.safepointer, frames::LOCAL_BYTES);
-                return Outcome { answer, state };
-            }
-            let bound = state.bound;
-            let frame = Frame::Cross(site, bound, state.domain);
-            frames::push(&mut ram[safe..top], used, frame);
-            state.domain = call_check::called_domain(config, target);
-            state.bound = pointer;
-            state.safepointer = address::above(state.safepointer, frames::CROSS_BYTES);
-            return Outcome { answer, state };
-        }
-        Answer::Refused(refusal) => return Outcome {
-            answer: Answer::Refused(refusal),
-            state,
-        },
+    if !in_range(code, site) {
+        return Err(Refusal::SiteOutside);
     }
+    if target < good.state.config.jt {
+        return calls::local(good, ram, code, target, site);
+    }
+    calls::cross(good, ram, called, word, target, site, pointer)
 }
 
-// A return is handed the frame below the safe pointer and the code range of the domain that it returns to, and no byte of RAM.
-pub fn ret_with(state: State, frame: Frame, code: Range) -> Outcome
+// A return is handed the frame below the safe pointer and the code range of the domain that it returns to, and no byte of RAM. Each kind of frame has
+// rows of its own.
+pub fn ret_with(state: State, frame: Frame, code: Range) -> Result<Done, Refusal>
     requires { (state.config.safe.0 < state.safepointer.0) × (length (frame_bytes frame) ≤ state.safepointer.0) × (code ≡ range_of state.config (caller_of state frame)) }
-    ensures { result ≡ returning state frame }
+    ensures { moved result state ≡ returning state frame }
 {
-    let found = return_check::judged(state, frame, code);
-    let mut next = state;
-    match found {
-        Frame::Local(site) => {
-            next.safepointer = address::below(state.safepointer, frames::LOCAL_BYTES);
-            let answer = Answer::Done(site.0);
-            return Outcome {
-                answer,
-                state: next,
-            };
+    match frame {
+        Frame::Local(site) if in_range(code, site) => {
+            let safepointer = address::below(state.safepointer, frames::LOCAL_BYTES);
+            Ok(Done {
+                value: site.0,
+                state: State {
+                    safepointer,
+                    ..state
+                },
+            })
         }
-        Frame::Cross(site, bound, domain) => {
-            next.domain = domain;
-            next.bound = bound;
-            next.safepointer = address::below(state.safepointer, frames::CROSS_BYTES);
-            let answer = Answer::Done(site.0);
-            return Outcome {
-                answer,
-                state: next,
-            };
+        Frame::Cross(site, bound, domain)
+            if in_range(code, site) && (state.bound..=address::last_byte()).contains(&bound) => {
+            let safepointer = address::below(state.safepointer, frames::CROSS_BYTES);
+            Ok(Done {
+                value: site.0,
+                state: State {
+                    domain,
+                    bound,
+                    safepointer,
+                    ..state
+                },
+            })
         }
-        Frame::Damage => {
-            let answer = Answer::Refused(Refusal::DamagedFrame);
-            return Outcome { answer, state };
-        }
+        _ => Err(Refusal::DamagedFrame),
     }
 }
 
-pub fn malloc(state: State, ram: &mut [u8], size: u16) -> Outcome
-    requires { (length ram.old ≡ ram_bytes) × (good_state state ≡ true) }
-    ensures { Gives result ram.new (malloc_of state ram.old size) }
+#[tactic(auto, using(crate::proofs::Good::good_facts, crate::proofs::Acts::malloc_run))]
+pub fn malloc(good: GoodState, ram: &mut Ram, size: u16) -> Answer
+    ensures { Gives (kept result good.state) ram.new (malloc_of good.state ram.old size) }
 {
-    let place = malloc_check::room(state, ram, size);
-    match place {
-        Place::At(start) => {
-            let config = state.config;
-            let n = address::blocks_for(config, size);
-            let first = map::start_code(config, state.domain);
-            let later = map::later_code(config, state.domain);
-            by_address::set_run(config, ram, start, n, first, later);
-            Outcome {
-                answer: Answer::Done(start.0),
-                state,
-            }
-        }
-        Place::Refused(refusal) => Outcome {
-            answer: Answer::Refused(refusal),
-            state,
-        },
+    let config = good.state.config;
+    let domain = good.state.domain;
+    if domain == TRUSTED {
+        return Err(Refusal::TrustedMalloc);
     }
+    if size == 0 {
+        return Err(Refusal::SizeZero);
+    }
+    let n = address::blocks_for(config, size);
+    let start = by_address::lowest_run(good.config(), ram, n).ok_or(Refusal::NoRun)?;
+    segments::set_segment(config, ram, start, n, domain);
+    Ok(start.0)
 }
 
-pub fn free(state: State, ram: &mut [u8], address: RamByte) -> Outcome
-    requires { (length ram.old ≡ ram_bytes) × (good_state state ≡ true) }
-    ensures { Gives result ram.new (free_of state ram.old address) }
+#[tactic(auto, using(crate::proofs::Good::good_facts, crate::proofs::Acts::own_run))]
+pub fn free(good: GoodState, ram: &mut Ram, address: RamByte) -> Answer
+    ensures { Gives (kept result good.state) ram.new (free_of good.state ram.old address) }
 {
-    let answer = segment_check::segment_at(state, ram, address);
-    match answer {
-        Answer::Done(_) => {
-            let config = state.config;
-            let freed = by_address::segment_blocks(config, ram, address, state.domain);
-            by_address::set_free(config, ram, address, freed);
-            Outcome {
-                answer: Answer::Done(freed),
-                state,
-            }
-        }
-        Answer::Refused(_) => Outcome { answer, state },
-    }
+    segments::segment_at(good, ram, address)?;
+    let freed = by_address::segment_blocks(good.config(), ram, address, good.state.domain);
+    by_address::set_free(good.state.config, ram, address, freed);
+    Ok(freed)
 }
 
-pub fn change(state: State, ram: &mut [u8], address: RamByte, domain: u8) -> Outcome
-    requires { (length ram.old ≡ ram_bytes) × (good_state state ≡ true) }
-    ensures { Gives result ram.new (change_of state ram.old address domain) }
+#[tactic(auto, using(crate::proofs::Good::good_facts, crate::proofs::Acts::own_run, laws::proofs::Codes::module_domain))]
+pub fn change(good: GoodState, ram: &mut Ram, address: RamByte, domain: u8) -> Answer
+    ensures { Gives (kept result good.state) ram.new (change_of good.state ram.old address domain) }
 {
-    let answer = segment_check::segment_at(state, ram, address);
-    match answer {
-        Answer::Done(_) => {
-            let config = state.config;
-            if !is_module(config, domain) {
-                return Outcome {
-                    answer: Answer::Refused(Refusal::DomainAbove),
-                    state,
-                };
-            }
-            let changed = by_address::segment_blocks(config, ram, address, state.domain);
-            let first = map::start_code(config, domain);
-            let later = map::later_code(config, domain);
-            by_address::set_run(config, ram, address, changed, first, later);
-            Outcome {
-                answer: Answer::Done(changed),
-                state,
-            }
-        }
-        Answer::Refused(_) => Outcome { answer, state },
+    segments::segment_at(good, ram, address)?;
+    let config = good.state.config;
+    if !is_module(config, domain) {
+        return Err(Refusal::DomainAbove);
     }
+    let changed = by_address::segment_blocks(good.config(), ram, address, good.state.domain);
+    segments::set_segment(config, ram, address, changed, domain);
+    Ok(changed)
 }

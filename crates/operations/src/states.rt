@@ -1,4 +1,4 @@
-// The state that a set-up that is done hands back.
+// The state that a set-up that is done hands back: no default, which is the state of zeros.
 ghost use Rattle.std.specs.Prelude.{◌≡◌};
 ghost use Rattle.rules.specs.State.{fresh};
 
@@ -8,11 +8,10 @@ use rules::{Config, State};
 pub fn fresh(config: Config) -> State
     ensures { result ≡ fresh config }
 {
-    let safepointer = config.safe;
     State {
         config,
         domain: TRUSTED,
         bound: address::last_byte(),
-        safepointer,
+        safepointer: config.safe,
     }
 }

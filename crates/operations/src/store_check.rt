@@ -1,35 +1,35 @@
-// Section 5, store: which answer it gets. The map is read once.
-ghost use Rattle.std.specs.Prelude.{◌≡◌, true, length};
-ghost use Rattle.rules.specs.Memory.{ram_bytes, codes_of};
-ghost use Rattle.rules.specs.State.{good_state};
+// Section 5, store: whether it is done, or which refusal it gets, as the rule's rows, store_rows, say it: an answer. The map is read once.
+ghost use Rattle.std.specs.Prelude.{◌≡◌};
+ghost use Rattle.rules.specs.Memory.{codes_of};
 ghost use Rattle.rules.specs.Store.{store_rows};
 
 use address::domains::TRUSTED;
-use rules::{Answer, RamByte, Refusal, State};
+use good::GoodState;
+use rules::{Answer, Ram, RamByte, Refusal};
 
-pub fn answer(state: State, ram: &[u8], address: RamByte) -> Answer
-    requires { (length ram.now ≡ ram_bytes) × (good_state state ≡ true) }
-    ensures { result ≡ store_rows state (codes_of state.config ram.now) address }
+#[tactic(auto, using(crate::proofs::Good::good_facts))]
+pub fn answer(good: GoodState, ram: &Ram, address: RamByte) -> Answer
+    ensures { result ≡ store_rows good.state (codes_of good.state.config ram.now) address }
 {
-    if address::RAM_BYTES <= address.0 {
-        return Answer::Refused(Refusal::PastRam);
+    let state = good.state;
+    let config = state.config;
+    if address::last_byte() < address {
+        return Err(Refusal::PastRam);
     }
     if state.domain == TRUSTED {
-        return Answer::Done(0);
+        return Ok(0);
     }
-    let config = state.config;
-    if address.0 < config.bot.0 {
-        return Answer::Refused(Refusal::OtherOwner);
+    if address < config.bot {
+        return Err(Refusal::OtherOwner);
     }
-    if config.top.0 <= address.0 {
-        if state.bound.0 < address.0 {
-            return Answer::Refused(Refusal::AboveBound);
+    if config.top <= address {
+        if state.bound < address {
+            return Err(Refusal::AboveBound);
         }
-        return Answer::Done(0);
+        return Ok(0);
     }
-    let owner = map::by_address::owner_at(config, ram, address);
-    if owner != state.domain {
-        return Answer::Refused(Refusal::OtherOwner);
+    if map::by_address::owner_at(config, ram, address) != state.domain {
+        return Err(Refusal::OtherOwner);
     }
-    Answer::Done(0)
+    Ok(0)
 }

@@ -1,20 +1,12 @@
 -- A call keeps the invariant: its frame stands behind those of the calls that were open.
 -- Assumes nothing.
-use Prim.Native.Nat.{ℕ, ◌+◌, ◌-◌, ◌*◌, ◌≤◌, ◌<◌}
-use mathlib.Core.Path.{◌≡◌, refl, ap, ◌∙◌}
-use mathlib.Core.Logic.{inr}
-use mathlib.Core.Bool.{Bool, true, false, not, cond, ◌&&◌}
-use mathlib.Core.List.{List, [], ◌∷◌, ◌++◌}
-use native.Mathlib.Omega.{arith}
-use lib.ListN.{length}
-use lib.Seq.{sets, length-sets}
-use lib.Dec.{leb, ltb}
-use borrow.Author.Tests.{leb-false, ltb-true, ltb-false, not-false}
+use Rattle.std.proofs.Common.{ℕ, ◌+◌, ◌-◌, ◌*◌, ◌≤◌, ◌<◌, ◌≡◌, refl, ap, ◌∙◌, inr, Bool, true, false, not, cond, ◌&&◌, List, [], ◌∷◌, ◌++◌, arith, length, leb, ltb, leb-false, ltb-true, ltb-false, Ok}
+use Rattle.std.proofs.Math.Seq.{sets, length-sets}
+use borrow.Author.Tests.{not-false}
 use Rattle.rules.specs.declared.RamByte.{RamByte}
 use Rattle.rules.specs.declared.FlashWord.{FlashWord}
 use Rattle.rules.specs.declared.Config.{Config}
 use Rattle.rules.specs.declared.State.{State}
-use Rattle.rules.specs.declared.Answer.TheVariants.{Done}
 use Rattle.rules.specs.declared.Operation.TheVariants.{Call}
 use Rattle.rules.specs.declared.Refusal.{Refusal}
 use Rattle.rules.specs.declared.Refusal.TheVariants.{SiteOutside, TargetOutside, PastTables, BadEntry, PointerOutside, PassesTop}
@@ -121,7 +113,7 @@ module _ (s : State) (ram : List ℕ) (gs : List Segment) (ks : List OpenCall) (
       by_rows s ram gs ks (Call t site p) h l
       (λ v e.
       let c : Config = s.config in
-      let (n, _) = passed (call_tests s l.table t site p) (Done (cond (is_local c t) t.0 (entry_of c l.table t).0)) v e in
+      let (n, _) = passed (call_tests s l.table t site p) (Ok (cond (is_local c t) t.0 (entry_of c l.table t).0)) v e in
       let good : good_site c s.domain site ≡ true = not-false _ n.0 in
       let fits : s.safepointer.0 + length (frame_bytes (frame_of s t site)) ≤ c.top.0 = ltb-false _ _ n.1.1.1.1.1.0 in
       plain s ram gs ks (Call t site p) (done_by s ram (Call t site p) v)

@@ -1,17 +1,12 @@
 -- Which bytes an operation may change, and who is then current: bytes of a segment, and bytes of the stack above the pointer of an open
 -- cross-domain call; for one operation, and for a stretch of a history.
 -- Assumes nothing.
-use Prim.Native.Nat.{ℕ, ◌≤◌, ◌<◌}
-use mathlib.Core.Path.{◌≡◌, refl, sym, ap, ◌∙◌, subst}
-use mathlib.Core.Logic.{◌⊎◌, inl, inr, ⊎_elim, ◌≢◌}
-use mathlib.Core.List.{List, [], ◌∷◌}
-use native.Mathlib.Omega.{arith}
-use native.Mathlib.Decide.{ℕ_discrete}
+use Rattle.std.proofs.Common.{ℕ, ◌≤◌, ◌<◌, ◌≡◌, refl, sym, ap, ◌∙◌, subst, ◌⊎◌, inl, inr, ⊎_elim, ◌≢◌, List, [], ◌∷◌, arith, Ok, Err}
+use Rattle.std.proofs.Math.Decide.{ℕ_discrete}
 use Rattle.rules.specs.declared.RamByte.{RamByte}
 use Rattle.rules.specs.declared.Config.{Config}
 use Rattle.rules.specs.declared.State.{State}
-use Rattle.rules.specs.declared.Answer.{Answer}
-use Rattle.rules.specs.declared.Answer.TheVariants.{Done, Refused}
+use Rattle.rules.specs.Answers.{Answer}
 use Rattle.rules.specs.declared.Operation.{Operation}
 use Rattle.rules.specs.declared.Operation.TheVariants.{Store}
 use Rattle.rules.specs.Memory.{layout_of, block_of, heap_block, codes_of, owner_of, trusted}
@@ -132,12 +127,12 @@ module _ (h : History) (k : Always h) where
 
 -- a store leaves both ghosts
 booked_store : (c : Config) (d : ℕ) (a : RamByte) (b : ℕ) (x : Answer) (gs : List Segment) → booked c d (Store a b) x gs ≡ gs
-booked_store c d a b (Done v) gs = refl
-booked_store c d a b (Refused r) gs = refl
+booked_store c d a b (Ok v) gs = refl
+booked_store c d a b (Err r) gs = refl
 
 noted_store : (c : Config) (a : RamByte) (b : ℕ) (x : Answer) (ks : List OpenCall) → noted c (Store a b) x ks ≡ ks
-noted_store c a b (Done v) ks = refl
-noted_store c a b (Refused r) ks = refl
+noted_store c a b (Ok v) ks = refl
+noted_store c a b (Err r) ks = refl
 
 module _ (h : History) (k : Always h) (o : Asked) where
   abbrev Changed : ℕ → Type 0
@@ -154,7 +149,7 @@ module _ (h : History) (k : Always h) (o : Asked) where
   by_whom : (x d : ℕ) → StoredBy h o x d
       → (domain_of h ≡ trusted) ⊎ OwnStore (state_of h) (codes_of (state_of h).config (ram_of h)) (ram_byte x)
   by_whom x d (b, e, done, _) =
-      let rows : store_rows (state_of h) (codes_of (state_of h).config (ram_of h)) (ram_byte x) ≡ Done 0 =
+      let rows : store_rows (state_of h) (codes_of (state_of h).config (ram_of h)) (ram_byte x) ≡ Ok 0 =
       rw e at (rows_done (state_of h) (ram_of h) o.lent o.operation 0 (says_done (answer_to h o) 0 done)) in
       (stored (state_of h) (codes_of (state_of h).config (ram_of h)) (ram_byte x) 0 k.1.good.domain rows).1
 

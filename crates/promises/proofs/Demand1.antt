@@ -1,16 +1,9 @@
 -- Demand 1: every answer's number is one of document 01's for what was asked, and a refusal alters nothing.
 -- Assumes nothing.
-use Prim.Native.Nat.{ℕ}
-use mathlib.Core.Path.{◌≡◌, refl, sym, subst}
-use mathlib.Core.Logic.{inl, inr, ◌≢◌}
-use mathlib.Core.Bool.{Bool, true, false, cond, not, false≢true, ◌&&◌, ◌||◌}
-use mathlib.Core.List.{List, [], ◌∷◌}
-use lib.ListN.{length}
-use lib.Dec.{eqb}
-use borrow.Author.Tests.{eqb-true}
+use Rattle.std.proofs.Common.{ℕ, ◌≡◌, refl, sym, subst, inl, inr, ◌≢◌, Bool, true, false, cond, not, ◌&&◌, ◌||◌, List, [], ◌∷◌, length, eqb, eqb-true, Ok, Err}
+use Rattle.std.proofs.Math.Bool.{false≢true}
 use Rattle.rules.specs.declared.State.{State}
-use Rattle.rules.specs.declared.Answer.{Answer}
-use Rattle.rules.specs.declared.Answer.TheVariants.{Done, Refused}
+use Rattle.rules.specs.Answers.{Answer, ◌⇒◌∣◌, give, number_of, number_of_refusal}
 use Rattle.rules.specs.declared.Operation.{Operation}
 use Rattle.rules.specs.declared.Operation.TheVariants.{Store, Call, Return, Malloc, Free, Change}
 use Rattle.rules.specs.declared.Refusal.{Refusal}
@@ -18,7 +11,6 @@ use Rattle.rules.specs.declared.Refusal.TheVariants.{WrongSize, BadState}
 use Rattle.rules.specs.Memory.{ram_bytes, in_use, layout_of}
 use Rattle.rules.specs.Code.{is_local, entry_of}
 use Rattle.rules.specs.State.{good_state, fresh, zeros}
-use Rattle.rules.specs.Answers.{◌⇒◌∣◌, give, number_of, number_of_refusal}
 use Rattle.rules.specs.SetUp.{set_up_answer, set_up_ram}
 use Rattle.rules.specs.Return.{read_frame, site_of}
 use Rattle.rules.specs.Malloc.{room_for, address_of}
@@ -55,11 +47,11 @@ row_number : (ns : List ℕ) (t : Bool) (r : Refusal) (below : Answer) → numbe
 row_number ns true r below here there = here
 row_number ns false r below here there = there
 
-rows_number : (ns : List ℕ) (rs : List (Bool × Refusal)) (v : ℕ) → all_among ns rs ≡ true → 0 ∈ ns → number_of (rows rs (Done v)) ∈ ns
+rows_number : (ns : List ℕ) (rs : List (Bool × Refusal)) (v : ℕ) → all_among ns rs ≡ true → 0 ∈ ns → number_of (rows rs (Ok v)) ∈ ns
 rows_number ns [] v t z = z
 rows_number ns (r ∷ rs) v t z =
     let (one, others) = both (among (number_of_refusal r.1) ns) (all_among ns rs) t in
-    row_number ns r.0 r.1 (rows rs (Done v)) (one_of (number_of_refusal r.1) ns one) (rows_number ns rs v others z)
+    row_number ns r.0 r.1 (rows rs (Ok v)) (one_of (number_of_refusal r.1) ns one) (rows_number ns rs v others z)
 
 -- an operation's own rows
 own_number : (s : State) (v : Seen) (l : Lent) (op : Operation) → number_of (rows_of s v l op) ∈ numbers_of op
@@ -84,8 +76,8 @@ answer_number s ram l op =
 
 unaltered : (x : Answer) (s : State) (ram : List ℕ) (s' : State) (ram' : List ℕ) → number_of (give x s ram s' ram').answer ≢ 0
     → Unaltered (give x s ram s' ram') s ram
-unaltered (Done v) s ram s' ram' n = absurd (n refl)
-unaltered (Refused r) s ram s' ram' n = record { value = refl; state = refl; memory = refl }
+unaltered (Ok v) s ram s' ram' n = absurd (n refl)
+unaltered (Err r) s ram s' ram' n = record { value = refl; state = refl; memory = refl }
 
 pub demand_1 : Demand1
 demand_1 =

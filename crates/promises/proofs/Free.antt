@@ -1,17 +1,11 @@
 -- Free and change of owner keep the invariant: the segment that the map shows at the address is one of the ledger's.
 -- Assumes nothing.
-use Prim.Native.Nat.{ℕ, ◌+◌, ◌≤◌, ◌<◌}
-use mathlib.Core.Path.{◌≡◌, sym, ap, ◌∙◌}
-use mathlib.Core.Bool.{Bool, true, not}
-use mathlib.Core.List.{List, [], ◌∷◌, ◌++◌}
-use native.Mathlib.Omega.{arith}
-use lib.ListN.{length, get_or, replicate, length-replicate, get_or-replicate}
-use lib.Dec.{eqb, leb, ltb}
-use borrow.Author.Tests.{leb-true, ltb-true, eqb-true, not-false}
+use Rattle.std.proofs.Common.{ℕ, ◌+◌, ◌≤◌, ◌<◌, ◌≡◌, sym, ap, ◌∙◌, Bool, true, not, List, [], ◌∷◌, ◌++◌, arith, length, get_or, replicate, eqb, leb, ltb, leb-true, ltb-true, eqb-true, Ok}
+use Rattle.std.proofs.Math.ListN.{length-replicate, get_or-replicate}
+use borrow.Author.Tests.{not-false}
 use Rattle.rules.specs.declared.RamByte.{RamByte}
 use Rattle.rules.specs.declared.Config.{Config}
 use Rattle.rules.specs.declared.State.{State}
-use Rattle.rules.specs.declared.Answer.TheVariants.{Done}
 use Rattle.rules.specs.declared.Operation.TheVariants.{Free, Change}
 use Rattle.rules.specs.declared.Refusal.{Refusal}
 use Rattle.rules.specs.declared.Refusal.TheVariants.{NoSegment, NotOwner, DomainAbove}
@@ -46,15 +40,15 @@ free_tests s codes a =
 abbrev pub change_tests : State → Codes → RamByte → ℕ → List (Bool × Refusal)
 change_tests s codes a d = free_tests s codes a ++ ((not (is_module s.config d), DomainAbove) ∷ [])
 
-pub freed_own : (s : State) (codes : Codes) (a : RamByte) (v : ℕ) → free_rows s codes a ≡ Done v → Own s codes a v
+pub freed_own : (s : State) (codes : Codes) (a : RamByte) (v : ℕ) → free_rows s codes a ≡ Ok v → Own s codes a v
 freed_own s codes a v e =
-    let (t, last) = passed (free_tests s codes a) (Done (blocks_at s codes a)) v e in
+    let (t, last) = passed (free_tests s codes a) (Ok (blocks_at s codes a)) v e in
     record { segment = not-false _ t.0; owner = eqb-true _ _ (not-false _ t.1.0); count = (cc) }
 
-pub changed_own : (s : State) (codes : Codes) (a : RamByte) (d v : ℕ) → change_rows s codes a d ≡ Done v
+pub changed_own : (s : State) (codes : Codes) (a : RamByte) (d v : ℕ) → change_rows s codes a d ≡ Ok v
     → Own s codes a v × (is_module s.config d ≡ true)
 changed_own s codes a d v e =
-    let (t, last) = passed (change_tests s codes a d) (Done (blocks_at s codes a)) v e in (
+    let (t, last) = passed (change_tests s codes a d) (Ok (blocks_at s codes a)) v e in (
       record { segment = not-false _ t.0; owner = eqb-true _ _ (not-false _ t.1.0); count = (cc) },
       not-false _ t.1.1.0,
     )

@@ -1,25 +1,17 @@
 -- A sequence of calls from C is a history of the rules, so what demand 3 promises holds of it.
 -- Assumes nothing.
-use Prim.Native.Nat.{ℕ}
-use mathlib.Core.Path.{◌≡◌, refl, sym, ap, ◌∙◌, subst}
-use mathlib.Core.Bool.{Bool, true, false, cond, not, or-true}
-use mathlib.Core.Logic.{◌⊎◌}
-use mathlib.Core.List.{List}
-use native.Mathlib.Omega.{arith}
-use lib.ListN.{length, get_or}
-use lib.Dec.{eqb}
-use borrow.Author.Tests.{eq-eqb, not-true}
+use Rattle.std.proofs.Common.{ℕ, ◌≡◌, refl, sym, ap, ◌∙◌, subst, Bool, true, false, cond, not, ◌⊎◌, List, arith, length, get_or, eqb, eq-eqb, Ok, Err}
+use Rattle.std.proofs.Math.Bool.{or-true}
+use borrow.Author.Tests.{not-true}
 use Rattle.rules.specs.declared.Config.{Config}
 use Rattle.rules.specs.declared.State.{State}
-use Rattle.rules.specs.declared.Answer.{Answer}
-use Rattle.rules.specs.declared.Answer.TheVariants.{Done, Refused}
+use Rattle.rules.specs.Answers.{Answer, ◌⇒◌∣◌, Given, give}
 use Rattle.rules.specs.declared.Operation.{Operation}
 use Rattle.rules.specs.declared.Refusal.TheVariants.{WrongSize, BrokenRule}
 use Rattle.rules.specs.Memory.{ram_bytes, in_use, layout_of}
 use Rattle.rules.specs.Code.{domains}
 use Rattle.rules.specs.State.{good_config, fresh, zeros}
 use Rattle.rules.specs.Bytes.{ranges_place}
-use Rattle.rules.specs.Answers.{◌⇒◌∣◌, Given, give}
 use Rattle.rules.specs.SetUp.{set_up_answer, set_up_ram, set_up_of}
 use Rattle.rules.specs.Operations.{Lent, lending, nothing, seen_by, state_after, ram_after, answer_by, operation_of}
 use Rattle.rules.specs.Slot.{slot_bytes, config_part, zero_part, config_in, state_in, slot_of, packed, GivenToC, refused_to_c, to_c, wrong_size, table_in, wrong_table, c_set_up_of, c_operation}
@@ -47,14 +39,14 @@ same c g eight a e r = record { answer = a; slot = e; state = (rw e (state_in-sl
 -- handed on behind the two tests, the first of which is also the operation's own first row: what is done is packed, and a refusal leaves
 -- the slot that held the state
 handed_on : (wrong : Bool) (a : Answer) (s s' : State) (slot ram done : List ℕ) → slot ≡ slot_of s → Eight s → s'.config ≡ s.config
-    → (wrong ≡ true → a ≡ Refused WrongSize) → Same (c_operation wrong slot ram (give a s ram s' done)) (give a s ram s' done)
+    → (wrong ≡ true → a ≡ Err WrongSize) → Same (c_operation wrong slot ram (give a s ram s' done)) (give a s ram s' done)
 handed_on true a s s' slot ram done e eight stays first = rw (first refl) (same _ _ eight refl e refl)
 handed_on false a s s' slot ram done e eight stays first =
     rw (eq-eqb (get_or slot zero_part 0) 0 (rw e (slot_of-zero s eight))) (by a)
   where
     by : (a : Answer) → Same (to_c slot ram (give a s ram s' done)) (give a s ram s' done)
-    by (Done v) = same _ _ (rw stays eight) refl refl refl
-    by (Refused r) = same _ _ eight refl e refl
+    by (Ok v) = same _ _ (rw stays eight) refl refl refl
+    by (Err r) = same _ _ eight refl e refl
 
 module _ (slot ram : List ℕ) (held : slot ≡ slot_of (state_in slot)) where
   eight : Eight (state_in slot)
@@ -66,7 +58,7 @@ module _ (slot ram : List ℕ) (held : slot ≡ slot_of (state_in slot)) where
   wrong_ram : wrong_size slot ram ≡ true → eqb (length ram) ram_bytes ≡ false
   wrong_ram w = not-true (eqb (length ram) ram_bytes) (rw (eq-eqb (length slot) slot_bytes size) at w)
 
-  handed : (wrong : Bool) (l : Lent) (op : Operation) → (wrong ≡ true → answer_by in_use (state_in slot) ram l op ≡ Refused WrongSize)
+  handed : (wrong : Bool) (l : Lent) (op : Operation) → (wrong ≡ true → answer_by in_use (state_in slot) ram l op ≡ Err WrongSize)
       → Same (c_operation wrong slot ram (operation_of (state_in slot) ram l op)) (operation_of (state_in slot) ram l op)
   handed wrong l op first =
       let s : State = state_in slot in
@@ -89,15 +81,15 @@ next_step c g o m =
 
 -- answered 0 is accepted
 answered_zero : (wrong sized good : Bool) (slot ram done : List ℕ) (s s' : State)
-    → (cond wrong (refused_to_c WrongSize slot ram) (to_c slot ram (give (not sized ⇒ WrongSize ∣ not good ⇒ BrokenRule ∣ Done 0) s ram s' done))).answer ≡ 0
-    → (wrong ≡ false) × ((not sized ⇒ WrongSize ∣ not good ⇒ BrokenRule ∣ Done 0) ≡ Done 0)
+    → (cond wrong (refused_to_c WrongSize slot ram) (to_c slot ram (give (not sized ⇒ WrongSize ∣ not good ⇒ BrokenRule ∣ Ok 0) s ram s' done))).answer ≡ 0
+    → (wrong ≡ false) × ((not sized ⇒ WrongSize ∣ not good ⇒ BrokenRule ∣ Ok 0) ≡ Ok 0)
 answered_zero true sized good slot ram done s s' h = absurd (omega arith)
 answered_zero false false good slot ram done s s' h = absurd (omega arith)
 answered_zero false true false slot ram done s s' h = absurd (omega arith)
 answered_zero false true true slot ram done s s' h = (refl, refl)
 
 module _ (slot ram : List ℕ) (h : (c_set_up_of slot ram).answer ≡ 0) where
-  accepted : (wrong_size slot ram ≡ false) × (set_up_answer (config_in slot) ram ≡ Done 0)
+  accepted : (wrong_size slot ram ≡ false) × (set_up_answer (config_in slot) ram ≡ Ok 0)
   accepted =
       let c : Config = config_in slot in
       answered_zero (wrong_size slot ram) (eqb (length ram) ram_bytes) (good_config c) slot ram (set_up_ram (layout_of c) c ram) zeros (fresh c) h

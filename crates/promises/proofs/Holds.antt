@@ -1,24 +1,14 @@
 -- What holds of the machine, the ledger and the open calls after every operation; what is to be shown of an operation that is done; and how
 -- new codes for heap blocks keep what holds, wherever those blocks stand.
 -- Assumes nothing.
-use Prim.Native.Nat.{ℕ, ◌+◌, ◌-◌, ◌*◌, ◌≤◌, ◌<◌}
-use mathlib.Core.Path.{◌≡◌, refl, sym, ◌∙◌}
-use mathlib.Core.Logic.{◌⊎◌, inl, ◌≢◌}
-use mathlib.Core.Bool.{Bool, true, false, true≢false, ◌&&◌}
-use mathlib.Core.List.{List, [], ◌∷◌}
-use native.Mathlib.Omega.{arith}
-use lib.ListN.{length, get_or}
-use lib.Seq.{slice, ext_get_or, length-slice, get_or-take, get_or-drop}
-use lib.Dec.{leb, ltb}
-use borrow.Author.Tests.{leb-true, le-leb, ltb-true, ltb-false}
+use Rattle.std.proofs.Common.{ℕ, ◌+◌, ◌-◌, ◌*◌, ◌≤◌, ◌<◌, ◌≡◌, refl, sym, ◌∙◌, ◌⊎◌, inl, ◌≢◌, Bool, true, false, true≢false, ◌&&◌, List, [], ◌∷◌, arith, length, get_or, ext_get_or, get_or-take, get_or-drop, leb, ltb, leb-true, le-leb, ltb-true, ltb-false, Ok, Err}
+use Rattle.std.proofs.Math.Seq.{slice, length-slice}
 use Rattle.rules.specs.declared.Config.{Config}
 use Rattle.rules.specs.declared.State.{State}
-use Rattle.rules.specs.declared.Answer.{Answer}
-use Rattle.rules.specs.declared.Answer.TheVariants.{Done, Refused}
+use Rattle.rules.specs.Answers.{Answer, Given, give}
 use Rattle.rules.specs.declared.Operation.{Operation}
 use Rattle.rules.specs.Memory.{ram_bytes, in_use, layout_of, heap_block, safe_block, radix, per_byte, map_bytes, map_byte, Codes, codes_of, set_codes, trusted, is_domain}
 use Rattle.rules.specs.Code.{good_site}
-use Rattle.rules.specs.Answers.{Given, give}
 use Rattle.rules.specs.SetUp.{set_up_code}
 use Rattle.rules.specs.Operations.{Lent, seen_by, rows_of, state_after, ram_after, answer_by, operation_of}
 use Rattle.laws.proofs.Tests.{by_test, both, and-true}
@@ -78,10 +68,10 @@ Elsewhere c ram ram' = (x : ℕ) → Out c x → get_or ram' x 0 ≡ get_or ram 
 -- what any operation leaves: what holds, if it is no trusted store to the map or the safe stack area; no byte that lies in neither is changed,
 -- except by a store to it; and bytes stay bytes
 pub record Kept (s : State) (ram : List ℕ) (gs : List Segment) (ks : List OpenCall) (op : Operation) (g : Given) : Type 0 where
-  pub holds : ((x b : ℕ) → Stores op x b → g.answer ≡ Done 0 → s.domain ≡ trusted → Out s.config x)
+  pub holds : ((x b : ℕ) → Stores op x b → g.answer ≡ Ok 0 → s.domain ≡ trusted → Out s.config x)
       → Holds g.state g.ram (booked s.config (domain_left ks) op g.answer gs) (noted s.config op g.answer ks)
   pub changes : (x : ℕ) → Out s.config x → get_or g.ram x 0 ≢ get_or ram x 0
-      → (b : ℕ) × Stores op x b × (g.answer ≡ Done 0)
+      → (b : ℕ) × Stores op x b × (g.answer ≡ Ok 0)
   pub bytes : Bytes ram → ((x b : ℕ) → Stores op x b → b < 256) → Bytes g.ram
 
 -- and one that stores nothing
@@ -91,7 +81,7 @@ Keeps s ram s' ram' gs ks = Holds s' ram' gs ks × Elsewhere s.config ram ram' �
 -- what an operation gives when it is done
 abbrev pub done_by : State → List ℕ → Operation → ℕ → Given
 done_by s ram op v =
-    record { answer = Done v; state = state_after s (seen_by in_use s ram) op; ram = ram_after (layout_of s.config) s ram op }
+    record { answer = Ok v; state = state_after s (seen_by in_use s ram) op; ram = ram_after (layout_of s.config) s ram op }
 
 module _ (s : State) (ram : List ℕ) (gs : List Segment) (ks : List OpenCall) (op : Operation) where
   pub plain : (g : Given)
@@ -102,14 +92,14 @@ module _ (s : State) (ram : List ℕ) (gs : List Segment) (ks : List OpenCall) (
 
   -- so what is to be shown of an operation is what it keeps when its own rows say that it is done
   pub by_rows : Holds s ram gs ks → (l : Lent)
-      → ((v : ℕ) → rows_of s (seen_by in_use s ram) l op ≡ Done v → Kept s ram gs ks op (done_by s ram op v))
+      → ((v : ℕ) → rows_of s (seen_by in_use s ram) l op ≡ Ok v → Kept s ram gs ks op (done_by s ram op v))
       → Kept s ram gs ks op (operation_of s ram l op)
   by_rows h l done = by (answer_by in_use s ram l op) refl
     where
       by : (x : Answer) → answer_by in_use s ram l op ≡ x
           → Kept s ram gs ks op (give x s ram (state_after s (seen_by in_use s ram) op) (ram_after (layout_of s.config) s ram op))
-      by (Done v) e = done v (done_below s ram l op v e).2
-      by (Refused r) e = plain (record { answer = Refused r; state = s; ram = ram }) (h, λ x out. refl, λ b. b)
+      by (Ok v) e = done v (done_below s ram l op v e).2
+      by (Err r) e = plain (record { answer = Err r; state = s; ram = ram }) (h, λ x out. refl, λ b. b)
 
 -- ---- the codes after a change that leaves the map
 

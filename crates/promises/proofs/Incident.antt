@@ -1,13 +1,9 @@
 -- What a domain has is out of every other module's reach; so the incident cannot happen.
 -- Assumes nothing.
-use Prim.Native.Nat.{ℕ}
-use mathlib.Core.Path.{◌≡◌, refl, sym, ◌∙◌, subst}
-use mathlib.Core.Logic.{inl, ⊎_elim, ◌≢◌}
-use native.Mathlib.Omega.{arith}
-use borrow.Author.Tests.{ne_eqb, lt-leb, lt-ltb, le-ltb}
+use Rattle.std.proofs.Common.{ℕ, ◌≡◌, refl, sym, ◌∙◌, subst, inl, ⊎_elim, ◌≢◌, arith, ne_eqb, lt-ltb, le-ltb, Ok, Err}
+use borrow.Author.Tests.{lt-leb}
 use Rattle.rules.specs.declared.RamByte.{RamByte}
 use Rattle.rules.specs.declared.Config.{Config}
-use Rattle.rules.specs.declared.Answer.TheVariants.{Done, Refused}
 use Rattle.rules.specs.declared.Operation.TheVariants.{Store, Free}
 use Rattle.rules.specs.declared.Refusal.TheVariants.{OtherOwner}
 use Rattle.rules.specs.Memory.{ram_bytes, heap_block, trusted}
@@ -27,7 +23,7 @@ use Rattle.promises.proofs.Change.{segment_step_lem, segment_place, segment_owne
 use Rattle.promises.proofs.Keeping.{segment_stays, freed_segment}
 
 -- who frees is no trusted domain, which has no segment
-freed_by_module : (h : History) → Assumed h → (o : Asked) (a : RamByte) (n : ℕ) → o.operation ≡ Free a → answer_to h o ≡ Done n → domain_of h ≢ trusted
+freed_by_module : (h : History) → Assumed h → (o : Asked) (a : RamByte) (n : ℕ) → o.operation ≡ Free a → answer_to h o ≡ Ok n → domain_of h ≢ trusted
 freed_by_module h assumed o a n q done d =
     let (_, i) = always h assumed in
     let c : Config = (state_of h).config in
@@ -41,7 +37,7 @@ module _ (h : History) (k : Always h) (g : Segment) (m : g ∈ ledger h)
       let c : Config = (state_of h).config in
       let good : GoodConfig c = k.1.good.config in
       let (from, to) = segment_place h k g m x q in
-      let answer : (operation_of (state_of h) (ram_of h) o.lent (Store (ram_byte x) b)).answer ≡ Refused OtherOwner =
+      let answer : (operation_of (state_of h) (ram_of h) o.lent (Store (ram_byte x) b)).answer ≡ Err OtherOwner =
       answer_by_lem (state_of h) (ram_of h) o.lent (Store (ram_byte x) b)
       ∙ below (state_of h) (ram_of h) o.lent (Store (ram_byte x) b) refl k.1.size (good_state-true (state_of h) k.1.good)
       ∙ (rw (

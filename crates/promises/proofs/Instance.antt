@@ -1,15 +1,8 @@
 -- The sample's history and a trusted store after it are as assumed; and the incident's; and the first as a run from C. So what is promised is
 -- promised of something. The checker computes their ghosts, and that each of their stores is one that is allowed.
 -- Assumes nothing.
-use Prim.Native.Nat.{ℕ, zero, suc, ◌+◌, ◌≤◌, ◌<◌}
-use mathlib.Core.Path.{◌≡◌, refl, sym, ap, ◌∙◌, subst}
-use mathlib.Core.Logic.{◌⊎◌, inl, inr, ⊎_elim}
-use mathlib.Core.Bool.{Bool, true, false, not, true≢false, ◌&&◌, ◌||◌}
-use mathlib.Core.List.{List, [], ◌∷◌}
-use native.Mathlib.Omega.{arith}
-use lib.ListN.{replicate, take}
-use lib.Dec.{leb, ltb, eqb}
-use borrow.Author.Tests.{ltb-true, le-leb, lt-ltb, eq-eqb, not-true}
+use Rattle.std.proofs.Common.{ℕ, zero, suc, ◌+◌, ◌≤◌, ◌<◌, ◌≡◌, refl, sym, ap, ◌∙◌, subst, ◌⊎◌, inl, inr, ⊎_elim, Bool, true, false, not, true≢false, ◌&&◌, ◌||◌, List, [], ◌∷◌, arith, replicate, take, leb, ltb, eqb, ltb-true, le-leb, lt-ltb, eq-eqb}
+use borrow.Author.Tests.{not-true}
 use Rattle.rules.specs.declared.RamByte.{RamByte}
 use Rattle.rules.specs.declared.Config.{Config}
 use Rattle.rules.specs.declared.Operation.{Operation}

@@ -1,17 +1,11 @@
 -- A segment is given up by its own domain alone: every operation but its free or change leaves it in the ledger; and a free or a change
 -- that is accepted is of a segment of the domain that asks.
 -- Assumes nothing.
-use Prim.Native.Nat.{ℕ}
-use mathlib.Core.Path.{◌≡◌, refl, sym, ap, ◌∙◌, subst}
-use mathlib.Core.Logic.{inl, inr, ◌≢◌}
-use mathlib.Core.List.{List, [], ◌∷◌, ◌++◌}
-use native.Mathlib.Decide.{ℕ_discrete}
-use lib.Dec.{ltb, eqb}
-use borrow.Author.Tests.{ne_eqb}
+use Rattle.std.proofs.Common.{ℕ, ◌≡◌, refl, sym, ap, ◌∙◌, subst, inl, inr, ◌≢◌, List, [], ◌∷◌, ◌++◌, ltb, eqb, ne_eqb, Ok}
+use Rattle.std.proofs.Math.Decide.{ℕ_discrete}
 use Rattle.rules.specs.declared.RamByte.{RamByte}
 use Rattle.rules.specs.declared.State.{State}
-use Rattle.rules.specs.declared.Answer.{Answer}
-use Rattle.rules.specs.declared.Answer.TheVariants.{Done}
+use Rattle.rules.specs.Answers.{Answer}
 use Rattle.rules.specs.declared.Operation.{Operation}
 use Rattle.rules.specs.declared.Operation.TheVariants.{Malloc, Free, Change}
 use Rattle.rules.specs.Memory.{in_use, layout_of, block_of, blocks_for, heap_block, codes_of, owner_of}
@@ -88,8 +82,8 @@ module _ (s : State) (ram : List ℕ) (gs : List Segment) (ks : List OpenCall) (
       ]
 
 -- what the rows of what is asked say of it when it is done
-pub done_rows : (h : History) (o : Asked) (op : Operation) → o.operation ≡ op → (v : ℕ) → answer_to h o ≡ Done v
-    → rows_of (state_of h) (seen_by in_use (state_of h) (ram_of h)) o.lent op ≡ Done v
+pub done_rows : (h : History) (o : Asked) (op : Operation) → o.operation ≡ op → (v : ℕ) → answer_to h o ≡ Ok v
+    → rows_of (state_of h) (seen_by in_use (state_of h) (ram_of h)) o.lent op ≡ Ok v
 done_rows h o op q v e = rw q at (rows_done (state_of h) (ram_of h) o.lent o.operation v e)
 
 pub segment_stays : (h : History) → HoldsAfter h
@@ -99,18 +93,18 @@ segment_stays h i g m o keeps =
     by_answer (λ gs. g ∈ gs) (config_of h) (domain_left (open_calls h)) o.operation (ledger h) m (answer_to h o)
     (done o.operation (booking o.operation) refl)
   where
-    done : (op : Operation) → Booking op → o.operation ≡ op → (v : ℕ) → answer_to h o ≡ Done v
-        → g ∈ booked (config_of h) (domain_left (open_calls h)) op (Done v) (ledger h)
+    done : (op : Operation) → Booking op → o.operation ≡ op → (v : ℕ) → answer_to h o ≡ Ok v
+        → g ∈ booked (config_of h) (domain_left (open_calls h)) op (Ok v) (ledger h)
     done op (leaves same) q v e = rw (same (config_of h) (domain_left (open_calls h)) v (ledger h)) m
     done op (enters size) q v e = entered_keeps _ g (ledger h) m
     done op (strikes a) q v e =
         free_stays (state_of h) (ram_of h) (ledger h) (open_calls h) i g m a v
         (freed_own (state_of h) (codes_of (state_of h).config (ram_of h)) a v (done_rows h o (Free a) q v e))
-        (λ w own n. keeps (own, done_says _ _ (e ∙ ap Done n), inl (q ∙ ap (λ (x : ℕ). Free (ram_byte x)) (sym w))))
+        (λ w own n. keeps (own, done_says _ _ (e ∙ ap Ok n), inl (q ∙ ap (λ (x : ℕ). Free (ram_byte x)) (sym w))))
     done op (makes_over a d) q v e =
         change_stays (state_of h) (ram_of h) (ledger h) (open_calls h) i g m a v
         (changed_own (state_of h) (codes_of (state_of h).config (ram_of h)) a d v (done_rows h o (Change a d) q v e)).0 d
-        (λ w own n other. keeps (own, done_says _ _ (e ∙ ap Done n), inr (d, other, q ∙ ap (λ (x : ℕ). Change (ram_byte x) d) (sym w))))
+        (λ w own n other. keeps (own, done_says _ _ (e ∙ ap Ok n), inr (d, other, q ∙ ap (λ (x : ℕ). Change (ram_byte x) d) (sym w))))
 
 -- ---- what is given is as large as was asked
 
@@ -119,7 +113,7 @@ unfolding entered
 entered_has g [] = inl refl
 entered_has g (e ∷ es) = by_test (ltb g.address e.address) (λ t. rw t (inl refl)) (λ t. rw t (inr (entered_has g es)))
 
-pub given_segment : (h : History) → HoldsAfter h → (o : Asked) (size v : ℕ) → o.operation ≡ Malloc size → answer_to h o ≡ Done v
+pub given_segment : (h : History) → HoldsAfter h → (o : Asked) (size v : ℕ) → o.operation ≡ Malloc size → answer_to h o ≡ Ok v
     → GivenSegment h o size v
 unfolding ledger
 given_segment h i o size v q e =
@@ -143,9 +137,9 @@ module _ (h : History) (i : HoldsAfter h) (o : Asked) (a : RamByte) (n : ℕ) wh
       segment_at_lem (state_of h) (ram_of h) (ledger h) (open_calls h) i a own.segment in
       (at.segment, at.member, at.address, sym at.count ∙ own.count, sym at.owner ∙ own.owner)
 
-  pub freed_segment : o.operation ≡ Free a → answer_to h o ≡ Done n → OwnSegment h a n
+  pub freed_segment : o.operation ≡ Free a → answer_to h o ≡ Ok n → OwnSegment h a n
   freed_segment q e = has_own (freed_own (state_of h) (codes_of (state_of h).config (ram_of h)) a n (done_rows h o (Free a) q n e))
 
-  pub changed_segment : (d : ℕ) → o.operation ≡ Change a d → answer_to h o ≡ Done n → OwnSegment h a n
+  pub changed_segment : (d : ℕ) → o.operation ≡ Change a d → answer_to h o ≡ Ok n → OwnSegment h a n
   changed_segment d q e =
       has_own (changed_own (state_of h) (codes_of (state_of h).config (ram_of h)) a d n (done_rows h o (Change a d) q n e)).0

@@ -1,19 +1,10 @@
 -- Malloc keeps the invariant: the run that it finds is free, so the new segment fits the row.
 -- Assumes nothing.
-use Prim.Native.Nat.{ℕ, ◌+◌, ◌≤◌, ◌<◌}
-use mathlib.Core.Path.{◌≡◌, refl, sym, ap, ◌∙◌, subst}
-use mathlib.Core.Bool.{Bool, true, false, true≢false}
-use mathlib.Core.List.{List, [], ◌∷◌}
-use native.Mathlib.Omega.{arith}
-use lib.ListN.{length}
-use lib.Dec.{eqb}
+use Rattle.std.proofs.Common.{ℕ, ◌+◌, ◌≤◌, ◌<◌, ◌≡◌, refl, sym, ap, ◌∙◌, subst, Bool, true, false, true≢false, List, [], ◌∷◌, arith, length, eqb, Option, Some, None, Ok}
 use borrow.Author.Tests.{eqb-false}
 use Rattle.rules.specs.declared.Block.{Block}
 use Rattle.rules.specs.declared.Config.{Config}
 use Rattle.rules.specs.declared.State.{State}
-use Rattle.rules.specs.declared.Found.{Found}
-use Rattle.rules.specs.declared.Found.TheVariants.{At, Nowhere}
-use Rattle.rules.specs.declared.Answer.TheVariants.{Done}
 use Rattle.rules.specs.declared.Operation.TheVariants.{Malloc}
 use Rattle.rules.specs.declared.Refusal.{Refusal}
 use Rattle.rules.specs.declared.Refusal.TheVariants.{TrustedMalloc, SizeZero, NoRun}
@@ -35,13 +26,13 @@ abbrev pub malloc_tests : State → Codes → ℕ → List (Bool × Refusal)
 malloc_tests s codes size =
     (is_trusted s, TrustedMalloc) ∷ (eqb size 0, SizeZero) ∷ (nowhere (room_for s codes size), NoRun) ∷ []
 
-pub somewhere : (f : Found) → nowhere f ≡ false → (b : Block) × (f ≡ At b)
-somewhere (At b) e = (b, refl)
-somewhere Nowhere e = absurd (true≢false e)
+pub somewhere : (f : Option Block) → nowhere f ≡ false → (b : Block) × (f ≡ Some b)
+somewhere (Some b) e = (b, refl)
+somewhere None e = absurd (true≢false e)
 
 module _ (s : State) (ram : List ℕ) (gs : List Segment) (ks : List OpenCall) (h : Holds s ram gs ks) where
   -- n free blocks from b on become a segment
-  taken_keeps : (n : ℕ) (b : Block) → 0 < n → is_module s.config s.domain ≡ true → lowest_run s.config (codes_of s.config ram) n ≡ At b
+  taken_keeps : (n : ℕ) (b : Block) → 0 < n → is_module s.config s.domain ≡ true → lowest_run s.config (codes_of s.config ram) n ≡ Some b
       → Keeps s ram s (set_codes (layout_of s.config) ram b.0 (segment_codes (layout_of s.config) s.domain n))
       (entered (record { address = start_of s.config b.0; blocks = n; owner = s.domain }) gs) ks
   taken_keeps n b p m e =
@@ -67,7 +58,7 @@ module _ (s : State) (ram : List ℕ) (gs : List Segment) (ks : List OpenCall) (
       (λ j out. coded j ∙ code_past c g gs j p (λ t. omega (arith, out t))))
 
   -- the same in the words of the rule and of the ledger
-  answered : (n v : ℕ) (f : Found) (b : Block) → f ≡ At b → start_of s.config b.0 ≡ v
+  answered : (n v : ℕ) (f : Option Block) (b : Block) → f ≡ Some b → start_of s.config b.0 ≡ v
       → Keeps s ram s (set_codes (layout_of s.config) ram b.0 (segment_codes (layout_of s.config) s.domain n))
       (entered (record { address = start_of s.config b.0; blocks = n; owner = s.domain }) gs) ks
       → Keeps s ram s (taken (layout_of s.config) s ram n f) (entered (record { address = v; blocks = n; owner = domain_left ks }) gs) ks
@@ -78,8 +69,8 @@ module _ (s : State) (ram : List ℕ) (gs : List Segment) (ks : List OpenCall) (
       by_rows s ram gs ks (Malloc size) h l
       (λ v e.
       let c : Config = s.config in
-      let f : Found = room_for s (codes_of c ram) size in
-      let (t, last) = passed (malloc_tests s (codes_of c ram) size) (Done (address_of c f)) v e in
+      let f : Option Block = room_for s (codes_of c ram) size in
+      let (t, last) = passed (malloc_tests s (codes_of c ram) size) (Ok (address_of c f)) v e in
       let (b, q) = somewhere f t.1.1.0 in
       let w : start_of c b.0 ≡ v = cc in
       plain s ram gs ks (Malloc size) (done_by s ram (Malloc size) v)

@@ -1,18 +1,11 @@
 -- A return finds the frame of the newest open call, gives what that call wants, and keeps the invariant.
 -- Assumes nothing.
-use Prim.Native.Nat.{ℕ, ◌+◌, ◌-◌, ◌≤◌, ◌<◌}
-use mathlib.Core.Path.{◌≡◌, refl, sym, ap, ◌∙◌}
-use mathlib.Core.Bool.{Bool, false}
-use mathlib.Core.List.{List, [], ◌∷◌}
-use native.Mathlib.Omega.{arith}
-use lib.ListN.{length, length-append, take, drop}
-use lib.Seq.{slice, length-slice, take-take, take_at}
-use lib.Dec.{eqb}
-use borrow.Author.Tests.{eq-eqb, ne_eqb, le-ltb, lt-leb}
+use Rattle.std.proofs.Common.{ℕ, ◌+◌, ◌-◌, ◌≤◌, ◌<◌, ◌≡◌, refl, sym, ap, ◌∙◌, Bool, false, List, [], ◌∷◌, arith, length, length-append, take, drop, take-take, take_at, eqb, eq-eqb, ne_eqb, le-ltb, Ok, Err}
+use Rattle.std.proofs.Math.Seq.{slice, length-slice}
+use borrow.Author.Tests.{lt-leb}
 use Rattle.rules.specs.declared.State.{State}
 use Rattle.rules.specs.declared.Config.{Config}
 use Rattle.rules.specs.declared.Frame.{Frame}
-use Rattle.rules.specs.declared.Answer.TheVariants.{Done, Refused}
 use Rattle.rules.specs.declared.Refusal.{Refusal}
 use Rattle.rules.specs.declared.Operation.TheVariants.{Return}
 use Rattle.rules.specs.declared.Refusal.TheVariants.{NoFrame, DamagedFrame}
@@ -76,7 +69,7 @@ module _ (s : State) (ram : List ℕ) (gs : List Segment) (h : Holds s ram gs []
       length-slice s.config.safe.0 s.safepointer.0 ram (omega (arith, h.size, h.good.safepointer≤top, h.good.config.top≤ram)) in
       omega (arith, l, ap length h.frames, h.good.safe≤safepointer)
 
-  no_frame : (l : Lent) → answer_by in_use s ram l Return ≡ Refused NoFrame
+  no_frame : (l : Lent) → answer_by in_use s ram l Return ≡ Err NoFrame
   no_frame l =
       below s ram l Return refl h.size (good_state-true s h.good) ∙ (rw (eq-eqb s.safepointer.0 s.config.safe.0 nothing_held))
 
@@ -100,14 +93,14 @@ module _ (s : State) (ram : List ℕ) (gs : List Segment) (k : OpenCall) (ks : L
   unfolding frames_of
   top_frame_lem = ap read_frame h.frames ∙ read_frame-back (frame_for k.kind k) (is_frame s k ks h.chain.0 k.kind) (frames_of ks)
 
-  returns_site : (l : Lent) → answer_by in_use s ram l Return ≡ Done k.site.0
+  returns_site : (l : Lent) → answer_by in_use s ram l Return ≡ Ok k.site.0
   returns_site l =
       below s ram l Return refl h.size (good_state-true s h.good)
-      ∙ none_holds (return_tests s (top_frame s ram)) (Done (site_of (top_frame s ram))) (
+      ∙ none_holds (return_tests s (top_frame s ram)) (Ok (site_of (top_frame s ram))) (
         ne_eqb s.safepointer.0 s.config.safe.0 (λ e. omega (arith, held, frame_some k.kind k)),
         (ap (damaged s) top_frame_lem ∙ sound s k ks h.chain.0 k.kind h.current bound≤, tt),
       )
-      ∙ ap Done (ap site_of top_frame_lem ∙ site_of_lem k.kind k)
+      ∙ ap Ok (ap site_of top_frame_lem ∙ site_of_lem k.kind k)
 
   returns_state : returned s (top_frame s ram) ≡ before s k ks h.chain.0 k.kind
   returns_state = ap (returned s) top_frame_lem ∙ back s k ks h.chain.0 k.kind h.current h.bound
@@ -155,9 +148,9 @@ pub return_kept : (s : State) (ram : List ℕ) (gs : List Segment) (ks : List Op
     → Kept s ram gs ks Return (operation_of s ram l Return)
 return_kept s ram gs [] h l =
     rw (no_frame s ram gs h l)
-    (plain s ram gs [] Return (record { answer = Refused NoFrame; state = s; ram = ram }) (h, λ x out. refl, λ b. b))
+    (plain s ram gs [] Return (record { answer = Err NoFrame; state = s; ram = ram }) (h, λ x out. refl, λ b. b))
 return_kept s ram gs (k ∷ ks) h l =
     let s' : State = before s k ks h.chain.0 k.kind in
     rw (returns_site s ram gs k ks h l, returns_state s ram gs k ks h)
-    (plain s ram gs (k ∷ ks) Return (record { answer = Done k.site.0; state = s'; ram = ram })
+    (plain s ram gs (k ∷ ks) Return (record { answer = Ok k.site.0; state = s'; ram = ram })
     (pop_keeps s ram gs k ks h, λ x out. refl, λ b. b))

@@ -1,19 +1,11 @@
 -- Malloc finds room if there is any, and what was freed is room again, until a malloc takes it.
 -- Assumes nothing.
-use Prim.Native.Nat.{ℕ, ◌+◌, ◌-◌, ◌≤◌, ◌<◌}
-use mathlib.Core.Path.{◌≡◌, refl, sym, ap, ◌∙◌, subst}
-use mathlib.Core.Bool.{true, true≢false}
-use mathlib.Core.Logic.{◌≢◌}
-use mathlib.Core.List.{List}
-use native.Mathlib.Omega.{arith}
-use lib.ListN.{length, replicate, length-replicate, get_or-replicate}
-use borrow.Author.Tests.{ne_eqb, le-leb, lt-ltb}
+use Rattle.std.proofs.Common.{ℕ, ◌+◌, ◌-◌, ◌≤◌, ◌<◌, ◌≡◌, refl, sym, ap, ◌∙◌, subst, true, true≢false, ◌≢◌, List, arith, length, replicate, ne_eqb, le-leb, lt-ltb, Option, Some, None, Ok}
+use Rattle.std.proofs.Math.ListN.{length-replicate, get_or-replicate}
 use Rattle.rules.specs.declared.RamByte.{RamByte}
+use Rattle.rules.specs.declared.Block.{Block}
 use Rattle.rules.specs.declared.Config.{Config}
 use Rattle.rules.specs.declared.State.{State}
-use Rattle.rules.specs.declared.Found.{Found}
-use Rattle.rules.specs.declared.Found.TheVariants.{At, Nowhere}
-use Rattle.rules.specs.declared.Answer.TheVariants.{Done}
 use Rattle.rules.specs.declared.Operation.{Operation}
 use Rattle.rules.specs.declared.Operation.TheVariants.{Malloc, Free, Change}
 use Rattle.rules.specs.declared.Refusal.TheVariants.{NoRun}
@@ -56,10 +48,10 @@ module _ (s : State) (ram : List ℕ) (l : Lent) (size : ℕ) (good : good_state
   abbrev wanted : ℕ
   wanted = blocks_for s.config size
 
-  abbrev run : Found
+  abbrev run : Option Block
   run = room_for s codes size
 
-  asked : (operation_of s ram l (Malloc size)).answer ≡ (nowhere run ⇒ NoRun ∣ Done (address_of s.config run))
+  asked : (operation_of s ram l (Malloc size)).answer ≡ (nowhere run ⇒ NoRun ∣ Ok (address_of s.config run))
   asked =
       answer_by_lem s ram l (Malloc size) ∙ below s ram l (Malloc size) refl n good
       ∙ (rw (ne_eqb s.domain trusted other, ne_eqb size 0 (λ e. omega arith)))
@@ -69,9 +61,9 @@ module _ (s : State) (ram : List ℕ) (l : Lent) (size : ℕ) (good : good_state
       by_test (nowhere run) (λ t. t)
       (λ t. absurd (omega (arith, rw t at (ap number_of (sym asked) ∙ e))))
 
-  nowhere_run : (f : Found) → nowhere f ≡ true → f ≡ Nowhere
-  nowhere_run (At b) t = absurd (true≢false (sym t))
-  nowhere_run Nowhere t = refl
+  nowhere_run : (f : Option Block) → nowhere f ≡ true → f ≡ None
+  nowhere_run (Some b) t = absurd (true≢false (sym t))
+  nowhere_run None t = refl
 
   no_room : ((k : ℕ) → FreeBlocks s.config codes k wanted → ⊥) → nowhere run ≡ true
   no_room never =
@@ -101,7 +93,7 @@ room_found s ram l size good n other some = (
 
 -- ---- after a free
 
-module _ (s : State) (ram : List ℕ) (l : Lent) (a : RamByte) (n : ℕ) (e : answer_by in_use s ram l (Free a) ≡ Done n) where
+module _ (s : State) (ram : List ℕ) (l : Lent) (a : RamByte) (n : ℕ) (e : answer_by in_use s ram l (Free a) ≡ Ok n) where
   abbrev left : List ℕ
   left = freed (layout_of s.config) s ram a
 
@@ -127,7 +119,7 @@ module _ (s : State) (ram : List ℕ) (l : Lent) (a : RamByte) (n : ℕ) (e : an
 
 pub freed_room : FreedRoom
 freed_room s ram l a n done =
-    let e : answer_by in_use s ram l (Free a) ≡ Done n = sym (answer_by_lem s ram l (Free a)) ∙ says_done _ n done in
+    let e : answer_by in_use s ram l (Free a) ≡ Ok n = sym (answer_by_lem s ram l (Free a)) ∙ says_done _ n done in
     rw e (
       freed_blocks s ram l a n e,
       λ next m size same good other some fits.
@@ -162,8 +154,8 @@ module _ (h : History) (k : Always h) (j : ℕ) (unowned : code_by (config_of h)
       by_answer Unowned (config_of h) (domain_left (open_calls h)) o.operation (ledger h) unowned (answer_to h o)
       (done o.operation (booking o.operation) refl)
     where
-      done : (op : Operation) → Booking op → o.operation ≡ op → (v : ℕ) → answer_to h o ≡ Done v
-          → Unowned (booked (config_of h) (domain_left (open_calls h)) op (Done v) (ledger h))
+      done : (op : Operation) → Booking op → o.operation ≡ op → (v : ℕ) → answer_to h o ≡ Ok v
+          → Unowned (booked (config_of h) (domain_left (open_calls h)) op (Ok v) (ledger h))
       done op (leaves same) q v e = rw (same (config_of h) (domain_left (open_calls h)) v (ledger h)) unowned
       done op (enters size) q v e = absurd (never size v q (done_says _ v e))
       done op (strikes a) q v e =

@@ -1,6 +1,6 @@
 -- The rules give the sample's lines: the checker computes them.
 -- Assumes nothing.
-use mathlib.Core.Path.{◌≡◌, refl}
+use Rattle.std.proofs.Common.{◌≡◌, refl}
 use Rattle.rules.specs.Memory.{divided_up, block_bytes, start_of, block_of, blocks_for, blocks, heap_block, safe_block, is_multiple, radix, per_byte, map_bytes_for, map_bytes, digit, set_digit, map_byte, map_digit, code_of, set_code, set_codes, start_code, later_code, free_code, owner_of, starts_segment, is_domain, is_module, is_free}
 use Rattle.rules.specs.Code.{ordered, apart_from, all_apart}
 use Rattle.rules.specs.State.{good_config, good_state}

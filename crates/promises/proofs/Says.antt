@@ -1,17 +1,12 @@
 -- An answer in the paper's numbers, and as the rules give it; and what an operation's own rows say of one that is done.
 -- Assumes nothing.
-use Prim.Native.Nat.{ℕ, ◌<◌}
-use mathlib.Core.Path.{◌≡◌, refl, sym, ap, ◌∙◌}
-use mathlib.Core.List.{List}
-use native.Mathlib.Omega.{arith}
+use Rattle.std.proofs.Common.{ℕ, ◌<◌, ◌≡◌, refl, sym, ap, ◌∙◌, List, arith, Ok, Err}
 use Rattle.rules.specs.declared.State.{State}
 use Rattle.rules.specs.declared.Operation.{Operation}
-use Rattle.rules.specs.declared.Answer.{Answer}
-use Rattle.rules.specs.declared.Answer.TheVariants.{Done, Refused}
+use Rattle.rules.specs.Answers.{Answer, number_of_refusal}
 use Rattle.rules.specs.declared.Refusal.{Refusal}
 use Rattle.rules.specs.declared.Refusal.TheVariants.{WrongSize, BrokenRule, BadState, PastRam, OtherOwner, AboveBound, SiteOutside, TargetOutside, PastTables, BadEntry, PointerOutside, PassesTop, NoFrame, DamagedFrame, TrustedMalloc, SizeZero, NoRun, NoSegment, NotOwner, DomainAbove}
 use Rattle.rules.specs.Memory.{in_use, layout_of}
-use Rattle.rules.specs.Answers.{number_of_refusal}
 use Rattle.rules.specs.Operations.{Lent, seen_by, rows_of, state_after, ram_after, answer_by, operation_of}
 use Rattle.laws.proofs.Rows.{give_answer}
 use Rattle.laws.proofs.Operations.{done_below}
@@ -40,11 +35,11 @@ refusal_some NoSegment = omega arith
 refusal_some NotOwner = omega arith
 refusal_some DomainAbove = omega arith
 
-pub says_done : (a : Answer) (v : ℕ) → Says a 0 v → a ≡ Done v
-says_done (Done w) v (_, e) = ap Done e
-says_done (Refused r) v (n, _) = absurd (omega (arith, refusal_some r, n))
+pub says_done : (a : Answer) (v : ℕ) → Says a 0 v → a ≡ Ok v
+says_done (Ok w) v (_, e) = ap Ok e
+says_done (Err r) v (n, _) = absurd (omega (arith, refusal_some r, n))
 
-pub done_says : (a : Answer) (v : ℕ) → a ≡ Done v → Says a 0 v
+pub done_says : (a : Answer) (v : ℕ) → a ≡ Ok v → Says a 0 v
 done_says a v e = rw e (refl, refl)
 
 -- what an operation is answered
@@ -52,6 +47,6 @@ pub answer_by_lem : (s : State) (ram : List ℕ) (l : Lent) (op : Operation) →
 answer_by_lem s ram l op =
     give_answer (answer_by in_use s ram l op) s ram (state_after s (seen_by in_use s ram) op) (ram_after (layout_of s.config) s ram op)
 
-pub rows_done : (s : State) (ram : List ℕ) (l : Lent) (op : Operation) (v : ℕ) → (operation_of s ram l op).answer ≡ Done v
-    → rows_of s (seen_by in_use s ram) l op ≡ Done v
+pub rows_done : (s : State) (ram : List ℕ) (l : Lent) (op : Operation) (v : ℕ) → (operation_of s ram l op).answer ≡ Ok v
+    → rows_of s (seen_by in_use s ram) l op ≡ Ok v
 rows_done s ram l op v e = (done_below s ram l op v (sym (answer_by_lem s ram l op) ∙ e)).2

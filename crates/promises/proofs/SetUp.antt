@@ -1,22 +1,14 @@
 -- After an accepted set-up the invariant holds: no segment, no open call, and the map as set-up wrote it.
 -- Assumes nothing.
-use Prim.Native.Nat.{ℕ}
-use mathlib.Core.Path.{◌≡◌, refl, sym, ◌∙◌}
-use mathlib.Core.Bool.{Bool, true, not}
-use mathlib.Core.List.{List, [], ◌∷◌}
-use native.Mathlib.Omega.{arith}
-use lib.ListN.{length}
-use lib.Seq.{slice_empty}
-use lib.Dec.{eqb}
-use borrow.Author.Tests.{eqb-true, not-false}
+use Rattle.std.proofs.Common.{ℕ, ◌≡◌, refl, sym, ◌∙◌, Bool, true, not, List, [], ◌∷◌, arith, length, eqb, eqb-true, Ok, Err}
+use Rattle.std.proofs.Math.Seq.{slice_empty}
+use borrow.Author.Tests.{not-false}
 use Rattle.rules.specs.declared.Config.{Config}
-use Rattle.rules.specs.declared.Answer.{Answer}
-use Rattle.rules.specs.declared.Answer.TheVariants.{Done, Refused}
+use Rattle.rules.specs.Answers.{Answer, give}
 use Rattle.rules.specs.declared.Refusal.{Refusal}
 use Rattle.rules.specs.declared.Refusal.TheVariants.{WrongSize, BrokenRule}
 use Rattle.rules.specs.Memory.{ram_bytes, layout_of}
 use Rattle.rules.specs.State.{good_config, fresh, zeros}
-use Rattle.rules.specs.Answers.{give}
 use Rattle.rules.specs.SetUp.{set_up_ram, set_up_answer, set_up_of}
 use Rattle.laws.proofs.Rows.{passed, give_answer}
 use Rattle.laws.proofs.SetUp.{length-set_up_ram, set_up_ram-bytes, set_up_ram_code}
@@ -49,12 +41,12 @@ fresh_holds c ram g n =
       chain = tt;
     }
 
-pub set_up_holds : (c : Config) (ram : List ℕ) → (set_up_of c ram).answer ≡ Done 0
+pub set_up_holds : (c : Config) (ram : List ℕ) → (set_up_of c ram).answer ≡ Ok 0
     → let g = set_up_of c ram in
     (g.state.config ≡ c) × Holds g.state g.ram [] []
 set_up_holds c ram e =
-    let q : set_up_answer c ram ≡ Done 0 = sym (give_answer (set_up_answer c ram) zeros ram (fresh c) (set_up_ram (layout_of c) c ram)) ∙ e in
-    let (t, _) = passed (set_up_tests c ram) (Done 0) 0 q in
+    let q : set_up_answer c ram ≡ Ok 0 = sym (give_answer (set_up_answer c ram) zeros ram (fresh c) (set_up_ram (layout_of c) c ram)) ∙ e in
+    let (t, _) = passed (set_up_tests c ram) (Ok 0) 0 q in
     rw q (refl, fresh_holds c ram (not-false _ t.1.0) (eqb-true _ _ (not-false _ t.0)))
 
 -- and RAM that held bytes holds bytes
@@ -62,5 +54,5 @@ pub set_up_bytes : (c : Config) (ram : List ℕ) → Bytes ram → Bytes (set_up
 set_up_bytes c ram bytes = by (set_up_answer c ram)
   where
     by : (x : Answer) → Bytes (give x zeros ram (fresh c) (set_up_ram (layout_of c) c ram)).ram
-    by (Done v) = set_up_ram-bytes c ram bytes
-    by (Refused r) = bytes
+    by (Ok v) = set_up_ram-bytes c ram bytes
+    by (Err r) = bytes

@@ -1,14 +1,9 @@
 -- The operations sorted, each time once: which are stores, and what each does to the ledger.
 -- Assumes nothing.
-use Prim.Native.Nat.{ℕ}
-use mathlib.Core.Path.{◌≡◌, refl}
-use mathlib.Core.Logic.{◌⊎◌, inl, inr}
-use mathlib.Core.List.{List}
-use native.Mathlib.Omega.{arith}
+use Rattle.std.proofs.Common.{ℕ, ◌≡◌, refl, ◌⊎◌, inl, inr, List, Ok, Err}
 use Rattle.rules.specs.declared.RamByte.{RamByte}
 use Rattle.rules.specs.declared.Config.{Config}
-use Rattle.rules.specs.declared.Answer.{Answer}
-use Rattle.rules.specs.declared.Answer.TheVariants.{Done, Refused}
+use Rattle.rules.specs.Answers.{Answer}
 use Rattle.rules.specs.declared.Operation.{Operation}
 use Rattle.rules.specs.declared.Operation.TheVariants.{Store, Call, Return, Malloc, Free, Change}
 use Rattle.promises.specs.History.{Stores}
@@ -21,11 +16,11 @@ NoStore op = (x b : ℕ) → Stores op x b → ⊥
 
 unfoldable pub as_store : (op : Operation) → ((x : ℕ) × (b : ℕ) × Stores op x b) ⊎ NoStore op
 as_store (Store a b) = inl (a.0, b, refl)
-as_store (Call t site p) = inr (λ x b e. let z : ◌≡◌ {A = ℕ} 0 1 = cc in omega arith)
-as_store Return = inr (λ x b e. let z : ◌≡◌ {A = ℕ} 0 1 = cc in omega arith)
-as_store (Malloc size) = inr (λ x b e. let z : ◌≡◌ {A = ℕ} 0 1 = cc in omega arith)
-as_store (Free a) = inr (λ x b e. let z : ◌≡◌ {A = ℕ} 0 1 = cc in omega arith)
-as_store (Change a d) = inr (λ x b e. let z : ◌≡◌ {A = ℕ} 0 1 = cc in omega arith)
+as_store (Call t site p) = inr (λ x b e. cc)
+as_store Return = inr (λ x b e. cc)
+as_store (Malloc size) = inr (λ x b e. cc)
+as_store (Free a) = inr (λ x b e. cc)
+as_store (Change a d) = inr (λ x b e. cc)
 
 -- ---- what it does to the ledger when it is done
 
@@ -34,7 +29,7 @@ pub data Booking : Operation → Type 0 where
   strikes : (a : RamByte) → Booking (Free a)
   makes_over : (a : RamByte) (d : ℕ) → Booking (Change a d)
   -- nothing
-  leaves : {op : Operation} → ((c : Config) (d v : ℕ) (gs : List Segment) → booked c d op (Done v) gs ≡ gs) → Booking op
+  leaves : {op : Operation} → ((c : Config) (d v : ℕ) (gs : List Segment) → booked c d op (Ok v) gs ≡ gs) → Booking op
 
 pub booking : (op : Operation) → Booking op
 booking (Store a b) = leaves (λ c d v gs. refl)
@@ -46,6 +41,6 @@ booking (Change a d) = makes_over a d
 
 -- what is refused does nothing to it: so what holds of the ledger, and of what is booked when it is done, holds of what is booked
 pub by_answer : (P : List Segment → Type 0) (c : Config) (d : ℕ) (op : Operation) (gs : List Segment) → P gs → (x : Answer)
-    → ((v : ℕ) → x ≡ Done v → P (booked c d op (Done v) gs)) → P (booked c d op x gs)
-by_answer P c d op gs p (Refused r) done = p
-by_answer P c d op gs p (Done v) done = done v refl
+    → ((v : ℕ) → x ≡ Ok v → P (booked c d op (Ok v) gs)) → P (booked c d op x gs)
+by_answer P c d op gs p (Err r) done = p
+by_answer P c d op gs p (Ok v) done = done v refl

@@ -1,9 +1,7 @@
 -- Each operation keeps the invariant, so every history that is as assumed has it.
 -- Assumes nothing.
-use Prim.Native.Nat.{ℕ}
-use mathlib.Core.Path.{◌≡◌, refl, sym, ◌∙◌, subst}
+use Rattle.std.proofs.Common.{ℕ, ◌≡◌, refl, sym, ◌∙◌, subst, Ok}
 use Rattle.rules.specs.declared.Config.{Config}
-use Rattle.rules.specs.declared.Answer.TheVariants.{Done}
 use Rattle.rules.specs.declared.Operation.{Operation}
 use Rattle.rules.specs.declared.Operation.TheVariants.{Store, Call, Return, Malloc, Free, Change}
 use Rattle.rules.specs.Memory.{trusted}
@@ -40,7 +38,7 @@ module _ (h : History) (k : Always h) (o : Asked) where
       of (Change a d) = change_kept (state_of h) (ram_of h) (ledger h) (open_calls h) k.1 o.lent a d
 
   -- any but a trusted store to the map or the safe stack area
-  pub next_always : ((x b : ℕ) → Stores o.operation x b → answer_to h o ≡ Done 0 → domain_of h ≡ trusted → Out (config_of h) x)
+  pub next_always : ((x b : ℕ) → Stores o.operation x b → answer_to h o ≡ Ok 0 → domain_of h ≡ trusted → Out (config_of h) x)
       → Always (h then o)
   unfolding after config_of ledger open_calls
   next_always quiet = (

@@ -1,20 +1,11 @@
 -- A store keeps the invariant: one that is carried out lands neither in the map nor in the safe stack area.
 -- Assumes nothing.
-use Prim.Native.Nat.{ℕ, ◌*◌, ◌≤◌, ◌<◌}
-use mathlib.Core.Path.{◌≡◌, refl, sym, ap, ◌∙◌}
-use mathlib.Core.Logic.{inl, inr, ⊎_elim, ◌⊎◌}
-use mathlib.Core.Bool.{Bool, true, false, not, ◌&&◌}
-use mathlib.Core.List.{List, [], ◌∷◌}
-use native.Mathlib.Decide.{ℕ_discrete}
-use native.Mathlib.Omega.{arith}
-use lib.ListN.{length, set, length-set}
-use lib.Seq.{get_or-set_other}
-use lib.Dec.{ltb, leb}
-use borrow.Author.Tests.{ltb-true, ltb-false, eqb-true, eqb-false, not-false, le-leb, lt-ltb}
+use Rattle.std.proofs.Common.{ℕ, ◌*◌, ◌≤◌, ◌<◌, ◌≡◌, refl, sym, ap, ◌∙◌, inl, inr, ⊎_elim, ◌⊎◌, Bool, true, false, not, ◌&&◌, List, [], ◌∷◌, arith, length, set, length-set, get_or-set_other, ltb, leb, ltb-true, ltb-false, eqb-true, le-leb, lt-ltb, Ok}
+use Rattle.std.proofs.Math.Decide.{ℕ_discrete}
+use borrow.Author.Tests.{eqb-false, not-false}
 use Rattle.rules.specs.declared.RamByte.{RamByte}
 use Rattle.rules.specs.declared.Config.{Config}
 use Rattle.rules.specs.declared.State.{State}
-use Rattle.rules.specs.declared.Answer.TheVariants.{Done}
 use Rattle.rules.specs.declared.Operation.TheVariants.{Store}
 use Rattle.rules.specs.declared.Refusal.{Refusal}
 use Rattle.rules.specs.declared.Refusal.TheVariants.{PastRam, OtherOwner, AboveBound}
@@ -46,10 +37,10 @@ store_tests s codes a =
     ∷ (not (is_trusted s) && above_bound s a, AboveBound)
     ∷ []
 
-pub stored : (s : State) (codes : Codes) (a : RamByte) (v : ℕ) → is_domain s.config s.domain ≡ true → store_rows s codes a ≡ Done v
+pub stored : (s : State) (codes : Codes) (a : RamByte) (v : ℕ) → is_domain s.config s.domain ≡ true → store_rows s codes a ≡ Ok v
     → (v ≡ 0) × ((s.domain ≡ trusted) ⊎ OwnStore s codes a)
 stored s codes a v d e =
-    let (n, last) = passed (store_tests s codes a) (Done 0) v e in (
+    let (n, last) = passed (store_tests s codes a) (Ok 0) v e in (
       (cc),
       by_test (is_trusted s)
           (λ t. inl (eqb-true _ _ t))
@@ -131,10 +122,10 @@ module _ (s : State) (ram : List ℕ) (gs : List Segment) (ks : List OpenCall) (
       (λ v e.
       let (zero, who) = stored s (codes_of s.config ram) a v h.good.domain e in
       record {
-        holds = λ quiet. store_keeps a.0 b (⊎_elim (quiet a.0 b refl (ap Done zero)) (own_store_place a) who);
+        holds = λ quiet. store_keeps a.0 b (⊎_elim (quiet a.0 b refl (ap Ok zero)) (own_store_place a) who);
         changes = λ x out n.
             elim (ℕ_discrete a.0 x) [
-              | yes q ↦ (b, ap (λ (y : ℕ). Store (ram_byte y) b) q, ap Done zero)
+              | yes q ↦ (b, ap (λ (y : ℕ). Store (ram_byte y) b) q, ap Ok zero)
               | no q ↦ absurd (n (get_or-set_other ram a.0 x b 0 (λ w. q (sym w))))
             ];
         bytes = λ before given. set-bytes ram a.0 b before (given a.0 b refl);

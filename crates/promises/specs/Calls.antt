@@ -1,6 +1,6 @@
 -- The open calls, made from the accepted calls and returns, and the bytes of their frames.
 -- No axiom.
-use Rattle.std.specs.Prelude.{ℕ, ◌-◌, ◌≡◌, cond, List, [], ◌∷◌, ◌++◌}
+use Rattle.std.specs.Prelude.{ℕ, ◌-◌, ◌≡◌, cond, List, [], ◌∷◌, ◌++◌, Ok, Err}
 use Rattle.rules.specs.declared.RamByte.{RamByte}
 use Rattle.rules.specs.declared.FlashWord.{FlashWord}
 use Rattle.rules.specs.declared.Config.{Config}
@@ -8,13 +8,11 @@ use Rattle.rules.specs.declared.Frame.{Frame}
 use Rattle.rules.specs.declared.Frame.TheVariants.{Local, Cross}
 use Rattle.rules.specs.declared.Operation.{Operation}
 use Rattle.rules.specs.declared.Operation.TheVariants.{Store, Call, Return, Malloc, Free, Change}
-use Rattle.rules.specs.declared.Answer.{Answer}
-use Rattle.rules.specs.declared.Answer.TheVariants.{Done, Refused}
+use Rattle.rules.specs.Answers.{Answer, Given}
 use Rattle.rules.specs.Memory.{ram_bytes, trusted}
 use Rattle.rules.specs.Code.{is_local, called_domain}
 use Rattle.rules.specs.State.{ram_byte}
 use Rattle.rules.specs.Call.{frame_bytes}
-use Rattle.rules.specs.Answers.{Given}
 use Rattle.promises.specs.History.{History, set_up, ◌then◌, config_of, answer_to, Says}
 
 -- a cross-domain call was made to a domain, with a stack pointer
@@ -66,14 +64,14 @@ older (k ∷ ks) = ks
 
 -- what an operation and its answer make of the open calls, newest first
 abbrev pub noted : Config → Operation → Answer → List OpenCall → List OpenCall
-noted c op (Refused r) ks = ks
-noted c (Call t site p) (Done v) ks = opened c ks t site p ∷ ks
-noted c Return (Done v) ks = older ks
+noted c op (Err r) ks = ks
+noted c (Call t site p) (Ok v) ks = opened c ks t site p ∷ ks
+noted c Return (Ok v) ks = older ks
 -- the others leave them
-noted c (Store a b) (Done v) ks = ks
-noted c (Malloc size) (Done v) ks = ks
-noted c (Free a) (Done v) ks = ks
-noted c (Change a d) (Done v) ks = ks
+noted c (Store a b) (Ok v) ks = ks
+noted c (Malloc size) (Ok v) ks = ks
+noted c (Free a) (Ok v) ks = ks
+noted c (Change a d) (Ok v) ks = ks
 
 unfoldable pub open_calls : History → List OpenCall
 open_calls (set_up c ram) = []

@@ -3,12 +3,11 @@
 use Rattle.std.specs.Prelude.{ℕ, ◌+◌, ◌≤◌, ◌<◌, ◌≡◌, ◌⊎◌, List, get_or}
 use Rattle.rules.specs.declared.Config.{Config}
 use Rattle.rules.specs.declared.State.{State}
-use Rattle.rules.specs.declared.Answer.{Answer}
+use Rattle.rules.specs.Answers.{Answer, Given, number_of, value_of}
 use Rattle.rules.specs.declared.Operation.{Operation}
 use Rattle.rules.specs.declared.Operation.TheVariants.{Store}
 use Rattle.rules.specs.Memory.{map_bytes, trusted}
 use Rattle.rules.specs.State.{ram_byte}
-use Rattle.rules.specs.Answers.{Given, number_of, value_of}
 use Rattle.rules.specs.SetUp.{set_up_of}
 use Rattle.rules.specs.Operations.{Lent, operation_of}
 

@@ -1,11 +1,10 @@
 -- The segments that the accepted requests leave, and the segments that the map shows.
 -- No axiom.
-use Rattle.std.specs.Prelude.{ℕ, zero, suc, ◌+◌, ◌-◌, ◌*◌, ◌≤◌, ◌<◌, ◌≡◌, true, cond, ◌&&◌, List, [], ◌∷◌, ◌++◌, ltb, eqb}
+use Rattle.std.specs.Prelude.{ℕ, zero, suc, ◌+◌, ◌-◌, ◌*◌, ◌≤◌, ◌<◌, ◌≡◌, true, cond, ◌&&◌, List, [], ◌∷◌, ◌++◌, ltb, eqb, Ok, Err}
 use Rattle.rules.specs.declared.Config.{Config}
 use Rattle.rules.specs.declared.Operation.{Operation}
 use Rattle.rules.specs.declared.Operation.TheVariants.{Store, Call, Return, Malloc, Free, Change}
-use Rattle.rules.specs.declared.Answer.{Answer}
-use Rattle.rules.specs.declared.Answer.TheVariants.{Done, Refused}
+use Rattle.rules.specs.Answers.{Answer}
 use Rattle.rules.specs.Memory.{layout_of, block_bytes, start_of, block_of, blocks_for, heap_block, safe_block, Codes, start_code, later_code, free_code, owner_of, starts_segment, is_module}
 use Rattle.rules.specs.State.{ram_byte}
 use Rattle.rules.specs.Free.{segment_blocks}
@@ -40,14 +39,14 @@ made_over d f = record { address = f.address; blocks = f.blocks; owner = d } ∷
 
 -- what an operation and its answer make of the ledger; d is the domain that was current
 abbrev pub booked : Config → ℕ → Operation → Answer → List Segment → List Segment
-booked c d op (Refused r) gs = gs
-booked c d (Malloc size) (Done v) gs = entered (record { address = v; blocks = blocks_for c size; owner = d }) gs
-booked c d (Free a) (Done v) gs = replaced_at a.0 struck gs
-booked c d (Change a e) (Done v) gs = replaced_at a.0 (made_over e) gs
+booked c d op (Err r) gs = gs
+booked c d (Malloc size) (Ok v) gs = entered (record { address = v; blocks = blocks_for c size; owner = d }) gs
+booked c d (Free a) (Ok v) gs = replaced_at a.0 struck gs
+booked c d (Change a e) (Ok v) gs = replaced_at a.0 (made_over e) gs
 -- the others leave it
-booked c d (Store a b) (Done v) gs = gs
-booked c d (Call t site p) (Done v) gs = gs
-booked c d Return (Done v) gs = gs
+booked c d (Store a b) (Ok v) gs = gs
+booked c d (Call t site p) (Ok v) gs = gs
+booked c d Return (Ok v) gs = gs
 
 unfoldable pub ledger : History → List Segment
 ledger (set_up c ram) = []

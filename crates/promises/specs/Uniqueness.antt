@@ -1,9 +1,10 @@
 -- Section 10: "That no second answer can satisfy a contract is itself proved": for every public function of every crate, by its name. The
 -- theorem is `uniqueness` of proofs/Uniqueness.antt.
 -- Each field states the contract as it stands in the source, with x for what was lent as x, and x' for what is left in it. That it does so
--- word for word, and that no public function lacks its field, is what tools/contracts.py sees to.
+-- word for word, and that no public function lacks its field, is what tools/contracts.py sees to. Where the source is handed a good
+-- configuration or state, the field is about any.
 -- No axiom.
-use Rattle.std.specs.Prelude.{ℕ, ◌+◌, ◌-◌, ◌*◌, ◌/◌, ◌≤◌, ◌<◌, ◌≡◌, ◌&&◌, List, ◌∷◌, ◌++◌, length, take, drop, replicate, eqb}
+use Rattle.std.specs.Prelude.{ℕ, ◌+◌, ◌-◌, ◌*◌, ◌/◌, ◌≤◌, ◌<◌, ◌≡◌, true, false, ◌&&◌, List, ◌∷◌, ◌++◌, length, take, drop, replicate, eqb, Option, Result, Ok, MatchResult}
 use Rattle.std.proofs.lemmas.List.Edits.{sets}
 use Rattle.rules.specs.declared.RamByte.{RamByte}
 use Rattle.rules.specs.declared.FlashWord.{FlashWord}
@@ -12,14 +13,14 @@ use Rattle.rules.specs.declared.Range.{Range}
 use Rattle.rules.specs.declared.Config.{Config}
 use Rattle.rules.specs.declared.State.{State}
 use Rattle.rules.specs.declared.Frame.{Frame}
-use Rattle.rules.specs.declared.Found.{Found}
-use Rattle.rules.specs.declared.Answer.{Answer}
+use Rattle.rules.specs.declared.Refusal.{Refusal}
+use Rattle.rules.specs.declared.Refusal.TheVariants.{BrokenRule, BadState}
 use Rattle.rules.specs.declared.Outcome.{Outcome}
 use Rattle.rules.specs.declared.Operation.{Operation}
 use Rattle.rules.specs.Memory.{ram_bytes, Layout, layout_of, map_byte, is_domain, is_module, start_of, block_of, blocks_for, is_multiple, map_bytes_for, code_of, codes_of, set_codes, start_code, later_code, free_code, owner_of, starts_segment}
-use Rattle.rules.specs.Code.{range_of, apart, table_words, domain_words, flash_word}
+use Rattle.rules.specs.Code.{range_of, ordered, apart, all_apart, table_words, domain_words, flash_word}
 use Rattle.rules.specs.State.{ram_byte, multiples, bot_below_top, map_below_heap, heap_below_safe, safe_below_top, top_in_ram, jt_in_flash, ranges_ordered, ranges_apart, good_config, domain_good, bound_good, safepointer_good, good_state}
-use Rattle.rules.specs.Answers.{number_of, value_of, Given, Gives}
+use Rattle.rules.specs.Answers.{Answer, number_of, value_of, Given, Gives, kept, moved}
 use Rattle.rules.specs.SetUp.{set_up_ram, set_up_of}
 use Rattle.rules.specs.Bytes.{low, high, word_at, range_at, config_at}
 use Rattle.rules.specs.Call.{frame_bytes}
@@ -40,11 +41,20 @@ abbrev pub Only3 : {A B C : Type 0} → (A → B → C → Type 0) → Type 0
 Only3 {A} {B} {C} P =
     (r r' : A) (x x' : B) (y y' : C) → P r x y → P r' x' y' → (r ≡ r') × (x ≡ x') × (y ≡ y')
 
+-- a configuration and a state with the proof that they are good, as crates/good declares them
+pub record GoodConfig : Type 0 where
+  pub config : Config
+  pub good : good_config config ≡ true
+
+pub record GoodState : Type 0 where
+  pub state : State
+  pub good : good_state state ≡ true
+
 pub record Uniqueness : Type 1 where
   -- what a rule gives leaves one answer, state and RAM; what a function called from C gives leaves one answer, slot and RAM
   pub only_gives : (g : Given) → Only2 (λ r ram. Gives r ram g)
   pub only_gives_to_c : (g : GivenToC) → Only3 (λ r slot ram. GivesToC r slot ram g)
-  -- crates/runtime, and those of crates/operations that have the same contract
+  -- crates/runtime
   pub only_set_up : (config : Config) (ram : List ℕ) → Only2 (λ r ram'. Gives r ram' (set_up_of config ram))
   pub only_operate : (state : State) (ram table : List ℕ) (op : Operation) → Only2 (λ r ram'. Gives r ram' (operation_of state ram (lending table) op))
   pub only_store : (state : State) (ram : List ℕ) (address : RamByte) (byte : ℕ)
@@ -56,10 +66,24 @@ pub record Uniqueness : Type 1 where
   pub only_free : (state : State) (ram : List ℕ) (address : RamByte) → Only2 (λ r ram'. Gives r ram' (free_of state ram address))
   pub only_change : (state : State) (ram : List ℕ) (address : RamByte) (domain : ℕ)
       → Only2 (λ r ram'. Gives r ram' (change_of state ram address domain))
-  -- the others of crates/operations; `table_of` is a table that has one word everywhere, `caller_of` the domain that a frame returns to
+  -- crates/operations, which answer without the state where that is known: set-up is done, and what is not a call or a return keeps it;
+  -- `table_of` is a table that has one word everywhere, `caller_of` the domain that a frame returns to
+  pub only_operations_set_up : (config : Config) (ram : List ℕ) → Only2 (λ r ram'. Gives (kept (Ok 0) r) ram' (set_up_of config ram))
+  pub only_operations_store : (state : State) (ram : List ℕ) (address : RamByte) (byte : ℕ)
+      → Only2 (λ r ram'. Gives (kept r state) ram' (store_of state ram address byte))
+  pub only_operations_malloc : (state : State) (ram : List ℕ) (size : ℕ) → Only2 (λ r ram'. Gives (kept r state) ram' (malloc_of state ram size))
+  pub only_operations_free : (state : State) (ram : List ℕ) (address : RamByte)
+      → Only2 (λ r ram'. Gives (kept r state) ram' (free_of state ram address))
+  pub only_operations_change : (state : State) (ram : List ℕ) (address : RamByte) (domain : ℕ)
+      → Only2 (λ r ram'. Gives (kept r state) ram' (change_of state ram address domain))
   pub only_call_with : (table_of : ℕ → List ℕ) (state : State) (ram : List ℕ) (code called : Range) (word : ℕ) (target site : FlashWord) (pointer : RamByte)
       → Only2 (λ r ram'. Gives r ram' (call_of state ram (table_of word) target site pointer))
   pub only_ret_with : (returning : State → Frame → Outcome) (state : State) (frame : Frame) (code : Range) → Only (λ r. r ≡ returning state frame)
+  -- the same of what the two hand back, which `moved` makes an outcome of
+  pub only_operations_call_with : (table_of : ℕ → List ℕ) (state : State) (ram : List ℕ) (code called : Range) (word : ℕ) (target site : FlashWord) (pointer : RamByte)
+      → Only2 (λ r ram'. Gives (moved r state) ram' (call_of state ram (table_of word) target site pointer))
+  pub only_operations_ret_with : (returning : State → Frame → Outcome) (state : State) (frame : Frame) (code : Range)
+      → Only (λ r. moved r state ≡ returning state frame)
   pub only_table_word : (jt target : FlashWord)
       → Only (λ r. (r < table_words) × (target.0 - jt.0 < table_words → r ≡ target.0 - jt.0) × (table_words ≤ target.0 - jt.0 → r ≡ 0))
   pub only_domain_of : (word : ℕ) → Only (λ r. r ≡ word / domain_words)
@@ -79,6 +103,9 @@ pub record Uniqueness : Type 1 where
   -- crates/script; `printed` is the text of a script, or nothing where there is no room for it
   pub only_run : (printed : List ℕ → ℕ → List ℕ) (input out : List ℕ)
       → Only2 (λ r out'. (r ≡ length (printed input (length out))) × (out' ≡ (printed input (length out)) ++ drop r out))
+  -- the ways from a number, of crates/rules
+  pub only_RamByte_from : (n : ℕ) → Only (λ r. r ≡ ram_byte n)
+  pub only_FlashWord_from : (n : ℕ) → Only (λ r. r ≡ flash_word n)
   -- crates/address; `map_at` is a map by where it begins, `to_whole` the distance to a byte's first block
   pub only_whole_blocks : (config : Config) (a : RamByte) → Only (λ r. r ≡ block_of config a)
   pub only_block_of : (config : Config) (a : RamByte) → Only (λ r. r ≡ block (block_of config a))
@@ -117,6 +144,11 @@ pub record Uniqueness : Type 1 where
   pub only_push : (area : List ℕ) (used : ℕ) (frame : Frame) → Only (λ area'. area' ≡ sets area used (frame_bytes frame))
   pub only_pop : (area : List ℕ) (used : ℕ) → Only (λ r. r ≡ read_frame (take used area))
   -- crates/good
+  pub only_GoodConfig_try_from : (c : Config)
+      → Only (λ (r : Result GoodConfig Refusal). MatchResult r (λ good. good.config ≡ c) (λ e. (e ≡ BrokenRule) × (good_config c ≡ false)))
+  pub only_GoodState_try_from : (s : State)
+      → Only (λ (r : Result GoodState Refusal). MatchResult r (λ good. good.state ≡ s) (λ e. (e ≡ BadState) × (good_state s ≡ false)))
+  pub only_GoodState_config : (state : State) → Only (λ (r : GoodConfig). r.config ≡ state.config)
   pub only_good_bounds : (config : Config)
       → Only (λ r. r ≡ (multiples config && bot_below_top config && map_below_heap config && heap_below_safe config && safe_below_top config && top_in_ram config))
   pub only_good_config : (config : Config) → Only (λ r. r ≡ good_config config)
@@ -127,6 +159,10 @@ pub record Uniqueness : Type 1 where
       → Only (λ r. r ≡ (bot_below_top config && map_below_heap config && heap_below_safe config && safe_below_top config && top_in_ram config))
   pub only_jt_in_flash : (config : Config) → Only (λ r. r ≡ jt_in_flash config)
   pub only_apart : (r q : Range) → Only (λ a. a ≡ apart r q)
+  -- `Reads` says that a closure reads these ranges, and `range_of` what it may give
+  pub only_in_any_order_by : (Reads : (ℕ → Range → Type 0) → List Range → Type 0) (jt : FlashWord) (range_of : ℕ → Range → Type 0)
+      → ((ranges : List Range) × Reads range_of ranges)
+      → Only (λ r. (ranges : List Range) → Reads range_of ranges → r ≡ (ordered jt ranges && all_apart ranges))
   pub only_in_any_order : (config : Config) → Only (λ r. r ≡ (ranges_ordered config && ranges_apart config))
   -- crates/map; `run_of` is where a search ended, by the first address of the run
   pub only_owner_of : (config : Config) (code : ℕ) → Only (λ r. r ≡ owner_of (layout_of config) code)
@@ -143,5 +179,5 @@ pub record Uniqueness : Type 1 where
       → Only (λ ram'. ram' ≡ set_codes (layout_of config) ram (block_of config a) (first ∷ replicate (n - 1) later))
   pub only_set_free : (config : Config) (ram : List ℕ) (a : RamByte) (n : ℕ)
       → Only (λ ram'. ram' ≡ set_codes (layout_of config) ram (block_of config a) (replicate n (free_code (layout_of config))))
-  pub only_lowest_run : (Run : Type 0) (run_of : Config → Found → Run) (config : Config) (ram : List ℕ) (n : ℕ)
+  pub only_lowest_run : (Run : Type 0) (run_of : Config → Option Block → Run) (config : Config) (ram : List ℕ) (n : ℕ)
       → Only (λ r. r ≡ run_of config (lowest_run config (codes_of config ram) n))

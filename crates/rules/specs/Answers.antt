@@ -1,16 +1,19 @@
 -- Section 6: answer numbers and their order; and what an operation gives.
-use Rattle.std.specs.Prelude.{ℕ, ◌≡◌, Bool, true, false, List}
+use Rattle.std.specs.Prelude.{ℕ, ◌≡◌, Bool, true, false, List, Result, Ok, Err}
 use Rattle.rules.specs.declared.State.{State}
+use Rattle.rules.specs.declared.Done.{Done}
 use Rattle.rules.specs.declared.Outcome.{Outcome}
-use Rattle.rules.specs.declared.Answer.{Answer}
-use Rattle.rules.specs.declared.Answer.TheVariants.{Done, Refused}
 use Rattle.rules.specs.declared.Refusal.{Refusal}
 use Rattle.rules.specs.declared.Refusal.TheVariants.{WrongSize, BrokenRule, BadState, PastRam, OtherOwner, AboveBound, SiteOutside, TargetOutside, PastTables, BadEntry, PointerOutside, PassesTop, NoFrame, DamagedFrame, TrustedMalloc, SizeZero, NoRun, NoSegment, NotOwner, DomainAbove}
+
+-- "0 with its value", or a refusal
+abbrev pub Answer : Type 0
+Answer = Result ℕ Refusal
 
 infixr 10 ◌⇒◌∣◌
 -- a row of a table of refusals, and the rows below it: "no earlier applicable number does"
 abbrev pub ◌⇒◌∣◌ : Bool → Refusal → Answer → Answer
-◌⇒◌∣◌ true r below = Refused r
+◌⇒◌∣◌ true r below = Err r
 ◌⇒◌∣◌ false r below = below
 
 abbrev pub number_of_refusal : Refusal → ℕ
@@ -37,13 +40,13 @@ number_of_refusal DomainAbove = 20
 
 -- 0 is done
 abbrev pub number_of : Answer → ℕ
-number_of (Done v) = 0
-number_of (Refused r) = number_of_refusal r
+number_of (Ok v) = 0
+number_of (Err r) = number_of_refusal r
 
 -- "Every refusal has value 0"
 abbrev pub value_of : Answer → ℕ
-value_of (Done v) = v
-value_of (Refused r) = 0
+value_of (Ok v) = v
+value_of (Err r) = 0
 
 -- what an operation gives: its answer, the state and all of RAM
 pub record Given : Type 0 where
@@ -53,9 +56,17 @@ pub record Given : Type 0 where
 
 -- "leaves RAM unaltered and hands back the state given": s and ram after a refusal, s' and ram' when done
 abbrev pub give : Answer → State → List ℕ → State → List ℕ → Given
-give (Done v) s ram s' ram' = record { answer = Done v; state = s'; ram = ram' }
-give (Refused r) s ram s' ram' = record { answer = Refused r; state = s; ram = ram }
+give (Ok v) s ram s' ram' = record { answer = Ok v; state = s'; ram = ram' }
+give (Err r) s ram s' ram' = record { answer = Err r; state = s; ram = ram }
 
 -- the form of the contracts of set-up and the operations: a function handed back r and left ram, and that is what the rule gives
 abbrev pub Gives : Outcome → List ℕ → Given → Type 0
 Gives r ram g = (r.answer ≡ g.answer) × (r.state ≡ g.state) × (ram ≡ g.ram)
+
+-- what an operation hands back in all: one that keeps the state, by its answer; one that changes it when done
+abbrev pub kept : Answer → State → Outcome
+kept a s = record { answer = a; state = s }
+
+abbrev pub moved : Result Done Refusal → State → Outcome
+moved (Ok d) s = record { answer = Ok d.value; state = d.state }
+moved (Err r) s = record { answer = Err r; state = s }

@@ -1,18 +1,16 @@
 -- Section 5: call.
-use Rattle.std.specs.Prelude.{ℕ, ◌+◌, ◌-◌, Bool, cond, not, ◌&&◌, ◌||◌, List, [], ◌∷◌, length, leb, ltb}
+use Rattle.std.specs.Prelude.{ℕ, ◌+◌, ◌-◌, Bool, cond, not, ◌&&◌, ◌||◌, List, [], ◌∷◌, length, leb, ltb, Ok}
 use Rattle.std.proofs.lemmas.List.Edits.{sets}
 use Rattle.rules.specs.declared.RamByte.{RamByte}
 use Rattle.rules.specs.declared.FlashWord.{FlashWord}
 use Rattle.rules.specs.declared.State.{State}
 use Rattle.rules.specs.declared.Frame.{Frame}
 use Rattle.rules.specs.declared.Frame.TheVariants.{Local, Cross, Damage}
-use Rattle.rules.specs.declared.Answer.{Answer}
-use Rattle.rules.specs.declared.Answer.TheVariants.{Done}
+use Rattle.rules.specs.Answers.{Answer, ◌⇒◌∣◌}
 use Rattle.rules.specs.declared.Refusal.TheVariants.{SiteOutside, TargetOutside, PastTables, BadEntry, PointerOutside, PassesTop}
 use Rattle.rules.specs.Code.{table_words, range_of, in_range, is_local, table_word, called_domain, entry_of, good_entry, good_site}
 use Rattle.rules.specs.State.{ram_byte, running}
 use Rattle.rules.specs.Bytes.{low, high}
-use Rattle.rules.specs.Answers.{◌⇒◌∣◌}
 
 -- the tag of a local frame
 abbrev pub local_tag : ℕ
@@ -46,7 +44,7 @@ call_rows s table t site p =
     is_cross s t && not (good_entry s.config table t) ⇒ BadEntry ∣
     is_cross s t && pointer_outside s p ⇒ PointerOutside ∣
     ltb s.config.top.0 (s.safepointer.0 + length (frame_bytes (frame_of s t site))) ⇒ PassesTop ∣
-    Done (cond (is_local s.config t) t.0 (entry_of s.config table t).0)
+    Ok (cond (is_local s.config t) t.0 (entry_of s.config table t).0)
 
 -- the state with a frame pushed: "then the called domain is current and the bound is the pointer"
 abbrev pub called : State → FlashWord → FlashWord → RamByte → State

@@ -1,13 +1,11 @@
 -- Section 5: free and change of owner.
-use Rattle.std.specs.Prelude.{ℕ, zero, suc, ◌-◌, Bool, cond, not, ◌&&◌, List, replicate, leb, ltb, eqb}
+use Rattle.std.specs.Prelude.{ℕ, zero, suc, ◌-◌, Bool, cond, not, ◌&&◌, List, replicate, leb, ltb, eqb, Ok}
 use Rattle.rules.specs.declared.RamByte.{RamByte}
 use Rattle.rules.specs.declared.Config.{Config}
 use Rattle.rules.specs.declared.State.{State}
-use Rattle.rules.specs.declared.Answer.{Answer}
-use Rattle.rules.specs.declared.Answer.TheVariants.{Done}
+use Rattle.rules.specs.Answers.{Answer, ◌⇒◌∣◌}
 use Rattle.rules.specs.declared.Refusal.TheVariants.{NoSegment, NotOwner, DomainAbove}
 use Rattle.rules.specs.Memory.{Layout, layout_of, Codes, start_of, block_of, safe_block, code_of, set_codes, later_code, free_code, owner_of, starts_segment, segment_codes, is_module}
-use Rattle.rules.specs.Answers.{◌⇒◌∣◌}
 use Rattle.rules.specs.Store.{owner_at}
 
 -- "The address must be the first of a heap block whose code is odd and not 15."
@@ -38,7 +36,7 @@ abbrev pub free_rows : State → Codes → RamByte → Answer
 free_rows s codes a =
     not (is_segment s.config codes a) ⇒ NoSegment ∣
     not (eqb (owner_at s.config codes a) s.domain) ⇒ NotOwner ∣
-    Done (blocks_at s codes a)
+    Ok (blocks_at s codes a)
 
 -- "Free writes 15 throughout"
 abbrev pub freed : Layout → State → List ℕ → RamByte → List ℕ
@@ -49,7 +47,7 @@ change_rows s codes a d =
     not (is_segment s.config codes a) ⇒ NoSegment ∣
     not (eqb (owner_at s.config codes a) s.domain) ⇒ NotOwner ∣
     not (is_module s.config d) ⇒ DomainAbove ∣
-    Done (blocks_at s codes a)
+    Ok (blocks_at s codes a)
 
 -- "change writes the new domain's codes"; "A change to oneself is accepted."
 abbrev pub changed : Layout → State → List ℕ → RamByte → ℕ → List ℕ

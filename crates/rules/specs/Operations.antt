@@ -4,14 +4,13 @@ use Rattle.std.proofs.Math.Seq.{slice}
 use Rattle.rules.specs.declared.RamByte.{RamByte}
 use Rattle.rules.specs.declared.FlashWord.{FlashWord}
 use Rattle.rules.specs.declared.State.{State}
-use Rattle.rules.specs.declared.Answer.{Answer}
+use Rattle.rules.specs.Answers.{Answer, ◌⇒◌∣◌, Given, give}
 use Rattle.rules.specs.declared.Operation.{Operation}
 use Rattle.rules.specs.declared.Operation.TheVariants.{Store, Call, Return, Malloc, Free, Change}
 use Rattle.rules.specs.declared.Refusal.TheVariants.{WrongSize, BadState}
 use Rattle.rules.specs.Memory.{ram_bytes, Order, in_use, Layout, layout_by, Codes, code_of, blocks_for}
 use Rattle.rules.specs.Code.{table_words}
 use Rattle.rules.specs.State.{good_state}
-use Rattle.rules.specs.Answers.{◌⇒◌∣◌, Given, give}
 use Rattle.rules.specs.Store.{store_rows, stored}
 use Rattle.rules.specs.Call.{call_rows, called, pushed}
 use Rattle.rules.specs.Return.{read_frame, return_rows, returned}

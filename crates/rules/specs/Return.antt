@@ -1,17 +1,15 @@
 -- Section 5: return.
-use Rattle.std.specs.Prelude.{ℕ, ◌-◌, Bool, true, cond, not, ◌||◌, List, length, get_or, leb, ltb, eqb}
+use Rattle.std.specs.Prelude.{ℕ, ◌-◌, Bool, true, cond, not, ◌||◌, List, length, get_or, leb, ltb, eqb, Ok}
 use Rattle.std.proofs.Math.Seq.{slice}
 use Rattle.rules.specs.declared.State.{State}
 use Rattle.rules.specs.declared.Frame.{Frame}
 use Rattle.rules.specs.declared.Frame.TheVariants.{Local, Cross, Damage}
-use Rattle.rules.specs.declared.Answer.{Answer}
-use Rattle.rules.specs.declared.Answer.TheVariants.{Done}
+use Rattle.rules.specs.Answers.{Answer, ◌⇒◌∣◌}
 use Rattle.rules.specs.declared.Refusal.TheVariants.{NoFrame, DamagedFrame}
 use Rattle.rules.specs.Memory.{ram_bytes, trusted}
 use Rattle.rules.specs.Code.{flash_word, good_site}
 use Rattle.rules.specs.State.{ram_byte, running}
 use Rattle.rules.specs.Bytes.{word_at}
-use Rattle.rules.specs.Answers.{◌⇒◌∣◌}
 use Rattle.rules.specs.Call.{local_tag}
 
 -- the last frame of the bytes from safe to the safe pointer. "Reads the tag below the safe pointer: 255 a local frame, 0 to 7 a
@@ -43,7 +41,7 @@ abbrev pub return_rows : State → Frame → Answer
 return_rows s frame =
     eqb s.safepointer.0 s.config.safe.0 ⇒ NoFrame ∣
     damaged s frame ⇒ DamagedFrame ∣
-    Done (site_of frame)
+    Ok (site_of frame)
 
 -- the state with a frame popped: "A cross-domain frame restores domain and bound. Popped bytes stay in RAM."
 abbrev pub returned : State → Frame → State

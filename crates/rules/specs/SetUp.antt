@@ -1,12 +1,10 @@
 -- Section 2: set-up.
-use Rattle.std.specs.Prelude.{ℕ, zero, suc, ◌*◌, cond, not, List, [], ◌∷◌, length, ltb, eqb}
+use Rattle.std.specs.Prelude.{ℕ, zero, suc, ◌*◌, cond, not, List, [], ◌∷◌, length, ltb, eqb, Ok}
 use Rattle.rules.specs.declared.Config.{Config}
-use Rattle.rules.specs.declared.Answer.{Answer}
-use Rattle.rules.specs.declared.Answer.TheVariants.{Done}
+use Rattle.rules.specs.Answers.{Answer, ◌⇒◌∣◌, Given, give}
 use Rattle.rules.specs.declared.Refusal.TheVariants.{WrongSize, BrokenRule}
 use Rattle.rules.specs.Memory.{ram_bytes, Order, in_use, Layout, layout_by, layout_of, blocks, heap_block, safe_block, map_bytes, per_byte, set_codes, start_code, later_code, free_code, trusted}
 use Rattle.rules.specs.State.{good_config, fresh, zeros}
-use Rattle.rules.specs.Answers.{◌⇒◌∣◌, Given, give}
 
 -- "block 0 gets 15, the other blocks below heap 14; heap blocks 15; the first block of the safe stack area, if there is one, 15
 -- and its others 14. If n is odd the unused half is 15."
@@ -33,7 +31,7 @@ abbrev pub set_up_answer : Config → List ℕ → Answer
 set_up_answer c ram =
     not (eqb (length ram) ram_bytes) ⇒ WrongSize ∣
     not (good_config c) ⇒ BrokenRule ∣
-    Done 0
+    Ok 0
 
 -- "a refused set-up hands back a state of zeros"
 abbrev pub set_up_by : Order → Config → List ℕ → Given

@@ -1,11 +1,10 @@
 -- Document 02, Ask 1: the state in a slot of bytes, and what the functions called from C give.
-use Rattle.std.specs.Prelude.{ℕ, ◌+◌, ◌*◌, ◌≡◌, Bool, cond, not, ◌&&◌, ◌||◌, List, [], ◌∷◌, ◌++◌, length, get_or, eqb}
+use Rattle.std.specs.Prelude.{ℕ, ◌+◌, ◌*◌, ◌≡◌, Bool, cond, not, ◌&&◌, ◌||◌, List, [], ◌∷◌, ◌++◌, length, get_or, eqb, Ok, Err}
 use Rattle.rules.specs.declared.RamByte.{RamByte}
 use Rattle.rules.specs.declared.FlashWord.{FlashWord}
 use Rattle.rules.specs.declared.Config.{Config}
 use Rattle.rules.specs.declared.State.{State}
-use Rattle.rules.specs.declared.Answer.{Answer}
-use Rattle.rules.specs.declared.Answer.TheVariants.{Done, Refused}
+use Rattle.rules.specs.Answers.{Answer, Given, number_of, value_of}
 use Rattle.rules.specs.declared.Refusal.{Refusal}
 use Rattle.rules.specs.declared.Refusal.TheVariants.{WrongSize, BadState}
 use Rattle.rules.specs.declared.Operation.{Operation}
@@ -14,7 +13,6 @@ use Rattle.rules.specs.Memory.{ram_bytes}
 use Rattle.rules.specs.Code.{table_words}
 use Rattle.rules.specs.State.{ram_byte}
 use Rattle.rules.specs.Bytes.{word_bytes, word_at, words_at, config_bytes, config_at, config_as_bytes}
-use Rattle.rules.specs.Answers.{Given, number_of, value_of}
 use Rattle.rules.specs.SetUp.{set_up_of}
 use Rattle.rules.specs.Operations.{lending, lent_table, operation_of}
 
@@ -78,11 +76,11 @@ pub record GivenToC : Type 0 where
 
 -- "A refusal leaves slot and RAM untouched, set-up included."
 abbrev pub refused_to_c : Refusal → List ℕ → List ℕ → GivenToC
-refused_to_c r slot ram = record { answer = packed (Refused r); slot = slot; ram = ram }
+refused_to_c r slot ram = record { answer = packed (Err r); slot = slot; ram = ram }
 
 abbrev pub give_to_c : Answer → List ℕ → List ℕ → State → List ℕ → GivenToC
-give_to_c (Done v) slot ram s' ram' = record { answer = packed (Done v); slot = slot_of s'; ram = ram' }
-give_to_c (Refused r) slot ram s' ram' = refused_to_c r slot ram
+give_to_c (Ok v) slot ram s' ram' = record { answer = packed (Ok v); slot = slot_of s'; ram = ram' }
+give_to_c (Err r) slot ram s' ram' = refused_to_c r slot ram
 
 abbrev pub to_c : List ℕ → List ℕ → Given → GivenToC
 to_c slot ram g = give_to_c g.answer slot ram g.state g.ram

@@ -1,13 +1,11 @@
 -- Section 5: store.
-use Rattle.std.specs.Prelude.{ℕ, Bool, not, ◌&&◌, ◌||◌, List, set, leb, ltb, eqb}
+use Rattle.std.specs.Prelude.{ℕ, Bool, not, ◌&&◌, ◌||◌, List, set, leb, ltb, eqb, Ok}
 use Rattle.rules.specs.declared.RamByte.{RamByte}
 use Rattle.rules.specs.declared.Config.{Config}
 use Rattle.rules.specs.declared.State.{State}
-use Rattle.rules.specs.declared.Answer.{Answer}
-use Rattle.rules.specs.declared.Answer.TheVariants.{Done}
+use Rattle.rules.specs.Answers.{Answer, ◌⇒◌∣◌}
 use Rattle.rules.specs.declared.Refusal.TheVariants.{PastRam, OtherOwner, AboveBound}
 use Rattle.rules.specs.Memory.{ram_bytes, layout_of, block_of, Codes, owner_of, trusted}
-use Rattle.rules.specs.Answers.{◌⇒◌∣◌}
 
 abbrev pub is_trusted : State → Bool
 is_trusted s = eqb s.domain trusted
@@ -31,7 +29,7 @@ store_rows s codes a =
     leb ram_bytes a.0 ⇒ PastRam ∣
     not (is_trusted s) && of_other s codes a ⇒ OtherOwner ∣
     not (is_trusted s) && above_bound s a ⇒ AboveBound ∣
-    Done 0
+    Ok 0
 
 abbrev pub stored : List ℕ → RamByte → ℕ → List ℕ
 stored ram a b = set ram a.0 b

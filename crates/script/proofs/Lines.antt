@@ -1,14 +1,8 @@
 -- The lines of a script's operations, one at a time: what the operation at a place decides.
 -- Assumes nothing.
-use Prim.Native.Nat.{ℕ, zero, suc, ◌+◌, ◌-◌, ◌≤◌, ◌<◌}
-use mathlib.Core.Path.{◌≡◌, refl, sym, ap, ◌∙◌}
-use mathlib.Core.Bool.{Bool, true, false, cond}
-use mathlib.Core.List.{List, [], ◌++◌}
-use native.Mathlib.Omega.{arith}
-use native.Mathlib.Numerals.{sub-one}
-use lib.Dec.{leb, eqb}
-use lib.ListN.{length, get_or}
-use borrow.Author.Tests.{le-leb, leb-true, leb-false}
+use Rattle.std.proofs.Common.{◌≡◌, ℕ, zero, suc, ◌+◌, ◌-◌, ◌≤◌, ◌<◌, List, [], ◌++◌, length, refl, sym, ap, ◌∙◌, sub-one, arith}
+use borrow.Author.Tests.{le-leb}
+use Rattle.std.proofs.lemmas.Bool.Decides.{nat_tests}
 use Rattle.rules.specs.declared.State.{State}
 use Rattle.rules.specs.declared.Outcome.{Outcome}
 use Rattle.rules.specs.declared.Operation.{Operation}
@@ -16,55 +10,27 @@ use Rattle.rules.specs.declared.Read.{Read}
 use Rattle.rules.specs.declared.Read.TheVariants.{Whole, Cut, End}
 use Rattle.rules.specs.Answers.{Given, Gives}
 use Rattle.rules.specs.Operations.{lending, operation_of}
-use Rattle.rules.specs.Script.{cut_text, up_to, operation_numbered, operation_at, line_of, on_read, lines_from}
-use Rattle.laws.proofs.Tests.{by_test}
-use Rattle.script.specs.Text.{Wrote, handed}
+use Rattle.rules.specs.Script.{cut_text, operation_at, line_of, on_read, lines_from}
+use Rattle.script.specs.declared.text.Text.{Text}
+use Rattle.script.specs.Text.{Adds, handed}
 use Rattle.script.specs.Run.{lines_at}
-use Rattle.script.proofs.Texts.{wrote_then}
+use Rattle.script.proofs.Texts.{adds_then}
 
 -- ---- where an operation ends
 
 module _ (input : List ℕ) where
-  -- a reading that starts at a place before the end of the input: what is whole ends behind its start, in the input
-  abbrev Within : ℕ → Read → Type 0
-  Within at (Whole op next) = (at < next) × (next ≤ length input)
-  Within at Cut = at < length input
-  Within at End = length input ≤ at
-
-  up_to_within : (at next : ℕ) (op : Operation) → at < next → at < length input → Within at (up_to input next op)
-  up_to_within at next op h l =
-      by_test (leb next (length input)) (λ t. rw t (h, leb-true next (length input) t)) (λ t. rw t l)
-
-  -- one number's row, above what the others give
-  row_within : (t : Bool) (at next : ℕ) (op : Operation) (below : Read) → at < next → at < length input → Within at below
-      → Within at (cond t (up_to input next op) below)
-  row_within true at next op below h l w = up_to_within at next op h l
-  row_within false at next op below h l w = w
-
-  numbered_within : (at number : ℕ) → at < length input → Within at (operation_numbered input at number)
-  numbered_within at number l =
-      row_within (eqb number 1) at (at + 4) _ _ (omega arith) l
-      (row_within (eqb number 2) at (at + 7) _ _ (omega arith) l
-      (row_within (eqb number 3) at (at + 1) _ _ (omega arith) l
-      (row_within (eqb number 4) at (at + 3) _ _ (omega arith) l
-      (row_within (eqb number 5) at (at + 3) _ _ (omega arith) l
-      (row_within (eqb number 6) at (at + 4) _ _ (omega arith) l
-      l)))))
-
-  pub operation_within : (at : ℕ) → Within at (operation_at input at)
-  unfolding operation_at
-  operation_within at =
-      by_test (leb (length input) at) (λ t. rw t (leb-true (length input) at t))
-      (λ f. rw f (numbered_within at (get_or input at 0) (leb-false (length input) at f)))
-
+  -- what is whole ends behind its start, in the input
   pub whole_within : (at : ℕ) (op : Operation) (next : ℕ) → operation_at input at ≡ Whole op next → (at < next) × (next ≤ length input)
-  whole_within at op next e = rw e at (operation_within at)
+  unfolding operation_at
+  whole_within at op next e = (grind (arith, nat_tests), grind (arith, nat_tests))
 
   pub cut_within : (at : ℕ) → operation_at input at ≡ Cut → at < length input
-  cut_within at e = rw e at (operation_within at)
+  unfolding operation_at
+  cut_within at e = grind (arith, nat_tests)
 
   pub end_within : (at : ℕ) → operation_at input at ≡ End → length input ≤ at
-  end_within at e = rw e at (operation_within at)
+  unfolding operation_at
+  end_within at e = grind (arith, nat_tests)
 
   past : (at : ℕ) → length input ≤ at → operation_at input at ≡ End
   unfolding operation_at
@@ -85,7 +51,8 @@ module _ (input table : List ℕ) where
   lines_past (suc left) s ram at count h = rw (past input at h)
 
   -- two continuations that agree at the operation that stands at a place
-  same_behind : (at : ℕ) (j k : Operation → ℕ → List ℕ) → ((op : Operation) (next : ℕ) → operation_at input at ≡ Whole op next → j op next ≡ k op next)
+  same_behind : (at : ℕ) (j k : Operation → ℕ → List ℕ)
+      → ((op : Operation) (next : ℕ) → operation_at input at ≡ Whole op next → j op next ≡ k op next)
       → (r : Read) → operation_at input at ≡ r → on_read r j ≡ on_read r k
   same_behind at j k same End e = refl
   same_behind at j k same Cut e = refl
@@ -134,17 +101,16 @@ module _ (input table : List ℕ) where
         (enough (length input - at - 1) (length input - next) g.state g.ram next (count + 1) (omega arith) (omega arith))
 
 -- what an operation handed back makes the line that its rule gives
-pub line_given_lem : (count : ℕ) (o : Outcome) (ram : List ℕ) (g : Given) → Gives o ram g → line_of count (handed o) ≡ line_of count g
+line_given_lem : (count : ℕ) (o : Outcome) (ram : List ℕ) (g : Given) → Gives o ram g → line_of count (handed o) ≡ line_of count g
 unfolding line_of
 line_given_lem count o ram g (a, s, r) = rw (a, s)
 
--- one turn: the line of the operation at a place is written, and then the lines behind it
+-- one turn: the line of the operation at a place is added, and then the lines behind it
 pub turn : (input table : List ℕ) (s : State) (ram : List ℕ) (at count : ℕ) (op : Operation) (next : ℕ) → operation_at input at ≡ Whole op next
     → (o : Outcome) (ram' : List ℕ) → Gives o ram' (operation_of s ram (lending table) op)
-    → {l m n : List ℕ} {p q r : ℕ} → Wrote l m p (line_of count (handed o)) q
-    → Wrote m n q (lines_at input table o.state ram' next (count + 1)) r
-    → Wrote l n p (lines_at input table s ram at count) r
+    → {a b c : Text} → Adds a b (line_of count (handed o)) → Adds b c (lines_at input table o.state ram' next (count + 1))
+    → Adds a c (lines_at input table s ram at count)
 turn input table s ram at count op next e o ram' gives v w =
     let g = operation_of s ram (lending table) op in
     rw (lines_whole input table s ram at count op next e)
-    (wrote_then (rw (line_given_lem count o ram' g gives) at v) (rw (gives.1, gives.2) at w))
+    (adds_then (rw (line_given_lem count o ram' g gives) at v) (rw (gives.1, gives.2) at w))

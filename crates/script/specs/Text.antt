@@ -1,14 +1,24 @@
--- Text written to a lent place, and the most that it can be.
-use Rattle.std.specs.Prelude.{ℕ, ◌+◌, ◌≤◌, ◌≡◌, List, [], length}
-use Rattle.std.proofs.lemmas.List.Edits.{sets}
+-- Text added to a lent place, and the most that it can be.
+use Rattle.std.specs.Prelude.{ℕ, ◌+◌, ◌-◌, ◌≡◌, List, [], ◌++◌, length, take, drop}
 use Rattle.rules.specs.declared.Outcome.{Outcome}
 use Rattle.rules.specs.Answers.{Given}
+use Rattle.script.specs.declared.text.Text.{Text}
 
--- text was written from place at on, whole, and nothing else was; r is the place behind it
-pub record Wrote (before after : List ℕ) (at : ℕ) (text : List ℕ) (r : ℕ) : Type 0 where
-  pub place : r ≡ at + length text
-  pub room : r ≤ length before
-  pub bytes : after ≡ sets before at text
+-- the text so far
+abbrev pub so_far : Text → List ℕ
+so_far t = take t.len t.place.now
+
+-- how many bytes more there is room for
+abbrev pub room : Text → ℕ
+room t = length t.place.now - t.len
+
+-- these bytes were added to a text, and all behind them is as it was
+pub record Adds (before after : Text) (bytes : List ℕ) : Type 0 where
+  pub same_place : after.place.ghost_name ≡ before.place.ghost_name
+  pub same_length : length after.place.now ≡ length before.place.now
+  pub len : after.len ≡ before.len + length bytes
+  pub added : so_far after ≡ so_far before ++ bytes
+  pub behind : drop after.len after.place.now ≡ drop after.len before.place.now
 
 -- what an operation handed back beside RAM, of which no text speaks
 abbrev pub handed : Outcome → Given

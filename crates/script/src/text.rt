@@ -1,74 +1,89 @@
-// Text, written to a lent place: a constant text, a number in decimal, the line of an operation, the lines of set-up.
-ghost use Rattle.std.specs.Prelude.{◌∷◌, ◌+◌, ◌≤◌, ◌<◌, length};
+// Text, added to what stands in a lent place: constant bytes, a number in decimal, the line of an operation, the lines of set-up.
+ghost use Rattle.std.specs.Prelude.{◌≡◌, ◌∷◌, ◌≤◌, length};
 ghost use Rattle.rules.specs.Script.{space, decimal, line_of, set_up_text};
-ghost use Rattle.script.specs.Text.{Wrote, line_most, set_up_most, handed};
 
 use codec::numbers::{number_of, value_of};
+use itoa::Buffer;
 use rules::Outcome;
 
-// The bytes of a text.
-pub fn put_text(out: &mut [u8], start: usize, text: &[u8]) -> usize
-    requires { start + length text.now ≤ length out.old }
-    ensures { Wrote out.old out.new start text.now result }
-{
-    let mut at = start;
-    let mut i = 0;
-    while i < text.len() {
-        out[at] = text[i];
-        at += 1;
-        i += 1;
+// A lent place, and how many of its bytes hold text.
+#[derive(Drop)]
+pub struct Text<'a> {
+    place: &'a mut [u8],
+    len: usize,
+    ghost within: { len ≤ length place.now },
+}
+
+impl<'a> Text<'a> {
+    ghost use Rattle.script.specs.Text.{Adds, room, line_most, set_up_most, handed};
+
+    pub fn new(place: &'a mut [u8]) -> Self
+        ensures same_place { result.place.ghost_name ≡ place.entry.ghost_name }
+        ensures bytes { result.place.now ≡ place.old }
+        ensures empty { result.len ≡ 0 }
+    {
+        Text { place, len: 0 }
     }
-    at
-}
 
-// A number in decimal: the digits above the last, if there are any, and the last.
-fn put_decimal(out: &mut [u8], at: usize, n: u16) -> usize
-    requires { at + 5 ≤ length out.old }
-    ensures { Wrote out.old out.new at (decimal n) result }
-{
-    if n < 10 {
-        out[at] = b'0' + n as u8;
-        return at + 1;
+    pub fn len(&self) -> usize
+        ensures { result ≡ self.now.len }
+    {
+        self.len
     }
-    let last = put_decimal(out, at, n / 10);
-    out[last] = b'0' + (n % 10) as u8;
-    last + 1
-}
 
-// A number with a space before it.
-fn put_field(out: &mut [u8], at: usize, n: u16) -> usize
-    requires { at + 6 ≤ length out.old }
-    ensures { Wrote out.old out.new at (space ∷ decimal n) result }
-{
-    out[at] = b' ';
-    put_decimal(out, at + 1, n)
-}
+    #[tactic(auto, using(std::proofs::lemmas::Slice::overwrites))]
+    pub fn push(&mut self, bytes: &[u8])
+        requires { length bytes.now ≤ room self.old }
+        ensures { Adds self.old self.new bytes.now }
+    {
+        let end = self.len + bytes.len();
+        self.place[self.len..end].copy_from_slice(bytes);
+        self.len = end;
+    }
 
-// Count, answer number, value, domain, bound and safe pointer.
-pub fn put_line(out: &mut [u8], start: usize, count: u16, o: Outcome) -> usize
-    requires { start + line_most ≤ length out.old }
-    ensures { Wrote out.old out.new start (line_of count (handed o)) result }
-{
-    let answer = o.answer;
-    let state = o.state;
-    let mut at = put_decimal(out, start, count);
-    at = put_field(out, at, number_of(answer) as u16);
-    at = put_field(out, at, value_of(answer));
-    at = put_field(out, at, state.domain as u16);
-    at = put_field(out, at, state.bound.0);
-    at = put_field(out, at, state.safepointer.0);
-    out[at] = b'\n';
-    at + 1
-}
+    // A number in decimal.
+    #[tactic(auto, using(crate::proofs::Texts::decimal_lem))]
+    fn decimal(&mut self, n: u16)
+        requires { 5 ≤ room self.old }
+        ensures { Adds self.old self.new (decimal n) }
+    {
+        self.push(Buffer::new().format(n).as_bytes());
+    }
 
-// HMT and the version, setup and its number.
-pub fn put_set_up(out: &mut [u8], o: Outcome) -> usize
-    requires { set_up_most ≤ length out.old }
-    ensures { Wrote out.old out.new 0 (set_up_text (handed o)) result }
-{
-    let answer = o.answer;
-    let mut at = put_text(out, 0, b"HMT 1\nsetup ");
-    at = put_decimal(out, at, number_of(answer) as u16);
-    out[at] = b'\n';
-    at + 1
+    // A number with a space before it.
+    fn field(&mut self, n: u16)
+        requires { 6 ≤ room self.old }
+        ensures { Adds self.old self.new (space ∷ decimal n) }
+    {
+        self.push(b" ");
+        self.decimal(n);
+    }
+
+    // Count, answer number, value, domain, bound and safe pointer.
+    // Number by number and not by write!, which promises its text only where it answers Ok, and nowhere that it does.
+    #[tactic(auto, using(crate::proofs::Texts::decimal_most))]
+    pub fn line(&mut self, count: u16, outcome: Outcome)
+        requires { line_most ≤ room self.old }
+        ensures { Adds self.old self.new (line_of count (handed outcome)) }
+    {
+        let Outcome { answer, state } = outcome;
+        self.decimal(count);
+        self.field(u16::from(number_of(answer)));
+        self.field(value_of(answer));
+        self.field(u16::from(state.domain));
+        self.field(state.bound.0);
+        self.field(state.safepointer.0);
+        self.push(b"\n");
+    }
+
+    // HMT and the version, setup and its number.
+    #[tactic(auto, using(crate::proofs::Texts::decimal_most))]
+    pub fn set_up(&mut self, outcome: Outcome)
+        requires { set_up_most ≤ room self.old }
+        ensures { Adds self.old self.new (set_up_text (handed outcome)) }
+    {
+        self.push(b"HMT 1\nsetup ");
+        self.decimal(u16::from(number_of(outcome.answer)));
+        self.push(b"\n");
+    }
 }

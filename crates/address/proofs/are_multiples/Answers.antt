@@ -1,5 +1,6 @@
 -- `address::are_multiples` meets its contract.
-use Rattle.std.proofs.Common.{◌≡◌, ℕ, ◌%◌, ◌&&◌, zero, suc, arith, ap, ◌∙◌}
+use Rattle.std.proofs.Common.{◌≡◌, ℕ, ◌%◌, ◌&&◌, zero, suc, arith}
+use Rattle.std.proofs.lemmas.Grind.{common_steps}
 use lib.Bits.{bit_or, or_mod, or_zero_l, or_add_and, and_le_r}
 use lib.Dec.{eqb}
 use borrow.Author.Tests.{ne_eqb}
@@ -13,4 +14,4 @@ together (suc a) b = rw (ne_eqb (bit_or (suc a) b) 0 (omega (arith, or_add_and (
 
 pub returns : goal.returns
 unfolding is_multiple block_bytes
-returns c = ap (λ (n : ℕ). eqb n 0) (or_mod c.args.a.0 c.args.b.0 3) ∙ together (c.args.a.0 % 8) (c.args.b.0 % 8)
+returns c = grind (arith, common_steps, or_mod c.args.a.0 c.args.b.0 3, together (c.args.a.0 % 8) (c.args.b.0 % 8))

@@ -1,49 +1,43 @@
 -- `hmt_c::slot::rising` meets its contract.
-use Rattle.std.proofs.Common.{◌≡◌, suc, arith}
-use Rattle.std.proofs.lemmas.Bool.{leb-true}
-use Rattle.rules.specs.Code.{domains}
-use Rattle.rules.specs.Bytes.{range_at, ranges_at}
+use Rattle.std.proofs.Common.{◌≡◌, ◌≤◌, arith, rules}
+use Rattle.std.proofs.lemmas.List.{length-take}
+use Rattle.rules.specs.Bytes.{word_at}
 use Rattle.good.proofs.Rising.{after, before, next, empty, rises_good}
+use Rattle.hmt_c.proofs.Ranges.{range_next, range_last}
 use Rattle.hmt_c.proofs.slot.rising.Goals as goal
-use Rattle.hmt_c.proofs.slot.rising.Goals.{then-last-start+else-end-start, else-last-start+else-start-end}
+use Rattle.hmt_c.proofs.slot.rising.Goals.{then-le+else-lt, else-le+else-ne}
 
-pub loop-at-init : goal.loop-at-init
-loop-at-init c =
-    record {
-      within = omega arith;
-      step = omega arith;
-      good = λ n e h. let eight : n ≡ domains = omega arith in rises_good _ _ _ (rw eight at h);
-    }
+pub loop-bytes-init : goal.loop-bytes-init
+loop-bytes-init c = λ h. rises_good _ _ _ (rw c.ranges-ranges.ensures.read at h)
 
-pub loop-at-preserved : goal.loop-at-preserved
-unfolding ranges_at
-loop-at-preserved c =
-    let inv = c.loop-at.invariant in
-    let start = c.word_at-start.ensures in
-    let end = c.word_at-end.ensures in
-    elim c.if-last-start.branch [
-      | then-last-start+else-end-start w ↦ record {
-        within = omega arith;
-        step = omega arith;
-        good = λ n e h. inv.good (suc n) (omega arith) (next (omega arith) (omega arith) (rw (w.last-is, end) at h));
-      }
-      | else-last-start+else-start-end w ↦ record {
-        within = omega arith;
-        step = omega arith;
-        good = λ n e h. inv.good (suc n) (omega arith) (empty (omega arith) (omega arith) (rw w.last-is at h));
-      }
+pub loop-bytes-preserved : goal.loop-bytes-preserved
+loop-bytes-preserved c =
+    let l = c.loop-bytes in
+    let code = c.range_at-code.result in
+    let first = range_next 7 l.bytes-index c.ranges-ranges.result.now c.loop-bytes-test.true c.range_at-code.ensures in
+    elim c.if-le.branch [
+      | then-le+else-lt w ↦ λ h. l.invariant (rw first (next {last = l.last.0} {r = code} (search rules) (search rules) (rw w.last-is at h)))
+      | else-le+else-ne w ↦ λ h. l.invariant (rw first (empty {last = l.last.0} {r = code} (search rules) (search rules) (rw w.last-is at h)))
     ]
 
-pub returns-then-last-start-2 : goal.returns-then-last-start-2
-unfolding ranges_at
-returns-then-last-start-2 c =
-    let l = c.loop-at in
-    let e : l.at ≡ 38 = omega arith in
-    λ t. l.invariant.good 1 (omega arith) (rw e (after {last = l.last} {code = range_at c.args.slot.now 38} (omega arith) (omega arith) (omega (arith, leb-true))))
+pub returns-then-le-2 : goal.returns-then-le-2
+returns-then-le-2 c =
+    let l = c.loop-bytes in
+    let trusted = c.range_at-trusted-2.result in
+    let all = c.ranges-ranges.result.now in
+    let i : l.bytes-index ≡ 7 = omega (arith, length-take 7 all) in
+    λ h. let jt : trusted.end.0 ≤ word_at c.args.slot.now 8 = search rules in
+    l.invariant
+    (rw (range_last 7 l.bytes-index all c.ranges-ranges.ensures.eight i c.range_at-trusted-2.ensures)
+    (after {last = l.last.0} {code = trusted} (search rules) (search rules) jt))
 
-pub returns : goal.returns
-unfolding ranges_at
-returns c =
-    let l = c.loop-at in
-    let e : l.at ≡ 38 = omega arith in
-    λ t. l.invariant.good 1 (omega arith) (rw e (before {last = l.last} {code = range_at c.args.slot.now 38} (omega arith) (omega arith) (omega (arith, leb-true))))
+pub returns-then-le-3 : goal.returns-then-le-3
+returns-then-le-3 c =
+    let l = c.loop-bytes in
+    let trusted = c.range_at-trusted-2.result in
+    let all = c.ranges-ranges.result.now in
+    let i : l.bytes-index ≡ 7 = omega (arith, length-take 7 all) in
+    λ h. let jt : l.last.0 ≤ word_at c.args.slot.now 8 = search rules in
+    l.invariant
+    (rw (range_last 7 l.bytes-index all c.ranges-ranges.ensures.eight i c.range_at-trusted-2.ensures)
+    (before {last = l.last.0} {code = trusted} (search rules) (search rules) jt))

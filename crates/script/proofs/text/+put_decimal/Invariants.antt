@@ -1,5 +1,0 @@
--- The measure is the number: each call prints a tenth of it.
-use Rattle.script.proofs.text.+put_decimal.Given as goal
-
-abbrev pub decreases-put_decimal : goal.decreases-put_decimal
-decreases-put_decimal l = l.n
