@@ -56,7 +56,7 @@ n 4d "$(code '\b(low|high|joined|byte_of|word_of|entry|ram_byte|flash_word|ram_b
 
 n 4e "$(code '\b(RamByte|FlashWord|Block)\(' | grep -v 'crates/rules/' | wc -l)" 'addresses made from numbers by the constructor, outside rules'
 
-n 4f "$(code 'Refusal::[A-Za-z]+ => [0-9]+,|^ *[0-9]+(\.\.=[0-9]+)? =>|Frame::[A-Za-z]+(\(.*\))? => (state\.)?domain' | wc -l)" 'match tables between enum and number'
+n 4f "$(code 'Refusal::[A-Za-z]+ => [0-9]+,|^ *[1-9][0-9]* =>|^ *0\.\.=|^ *\[[1-6],.*\] =>|_TAG if|Frame::[A-Za-z]+(\(.*\))? => (state\.)?domain' | wc -l)" 'match tables between enum and number'
 
 n 4g "$(code 'fn (zeros|zero_byte|zero_word|first_block|fresh)\(' | wc -l)" 'default values and zeros by hand'
 
@@ -84,7 +84,7 @@ python3 -c "
 import re,glob
 t=''.join(open(f).read() for f in glob.glob('crates/*/src/*.rt'))
 s=[set(re.findall(r'(\w+): ',a)) for a in re.findall(r'\bfn \w+[^(]*\(([^)]*)\)',t)]
-for g in 'state ram|config ram a|bot ram k|bot ram k code|bot ram k n|bot ram k n code|ram slot|target site pointer|state called word target pointer|state ram table|bytes at|input at|area used|low high|state ram address|state ram size|out start|state frame|state code|config a|config ram|config domain|k n'.split('|'): print(sum(set(g.split())<=x for x in s),g)"
+for g in 'state ram|config ram a|bot ram k|bot ram k code|bot ram k n|bot ram k n code|ram slot|target site pointer|state called word target pointer|state ram table|bytes at|input at|area used|low high|state ram address|state ram size|out start|state frame|state code|config a|config ram|config domain|k n'.split('|'): m=sum(set(g.split())<=x for x in s); m>2 and print(m,g)"
 
 n 5c 'parameters that only the contract speaks of'
 python3 -c "
@@ -110,7 +110,7 @@ n 7b "$(code 'operate\(state, ram, .*Operation::' | wc -l)" 'wrappers of operate
 
 n 7c "$({ code 'fn (usual|unusual|store_at|call_at|malloc_at|free_at|change_at|indices_good|fill_table)\('; grep -HnE 'fn (change|set_up|good_config|good_state)\(' crates/hmt_c/src/slot.rt; grep -HnE 'fn (free|change|malloc|store)\(' crates/operations/src/lib.rt; } | wc -l)" 'near-equal pairs and families that differ in the step in their middle'
 
-n 7d "$({ code '(Operation|Frame)::[A-Z][a-z]+(\(.*\))? =>|^ *[1-6] =>'; code 'if k\.0 % PER_BYTE == 0'; } | wc -l)" 'switches on which step to run'
+n 7d "$({ code '(Operation|Frame)::[A-Z][a-z]+(\(.*\))?( if .*)? =>|^ *[1-6] =>|^ *\[[1-6],.*\] =>'; code 'if k\.0 % PER_BYTE == 0'; } | wc -l)" 'switches on which step to run'
 
 n b1 "$(code 'return (true|false);' | wc -l)" 'return true; and return false;, tests in a row in place of && and ||'
 
