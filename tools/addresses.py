@@ -5,8 +5,8 @@ compiler's types can't see it.
 The compiler tells the three types apart. What it lets through, this searches for in crates/*/src:
   - an address made from a number, as RamByte(n) or by a store to the number inside one (r.0 = n): only in rules, which declares From, and
     in crate address;
-  - a conversion that can make one, as RamByte::from(n), n.into() or a bound From<u16>: only there and where numbers come in, from bytes, from
-    C and from a script; and of the number inside an address nowhere else than there;
+  - a conversion that can make one, as RamByte::from(n), n.into() or a bound From<u16>: only there and where numbers come in, from bytes and
+    from C; and of the number inside an address nowhere else than there;
   - a block number that leaves the map code: no crate above the map names one, nor does a public function of the map, in whatever
     number of lines its head stands;
   - the number inside an address handed as an offset: above(bot, site.0).
@@ -16,8 +16,8 @@ import os
 import re
 import sys
 
-MAKERS = ("address/src/", "rules/src/lib.rt")
-INLETS = (*MAKERS, "codec/src/lib.rt", "hmt_c/src/lib.rt", "script/src/operation.rt")  # where numbers come in
+MAKERS = ("address/src/lib.rt", "address/src/packing.rt", "rules/src/lib.rt")
+INLETS = (*MAKERS, "codec/src/lib.rt", "hmt_c/src/lib.rt")  # where numbers come in
 OWNERS = ("rules/", "address/", "map/")  # crates that may name a block
 MADE = re.compile(r"\b(?:RamByte|FlashWord|Block)\(")
 CONVERTED = re.compile(r"\b(?:RamByte|FlashWord|From|Into)::(?:from|into)\b|\.into\(\)|\b(?:From<u16>|Into<)")

@@ -22,8 +22,11 @@ A function of an impl block is TYPE_NAME. One of a trait's impl ensures what its
 result; what is derived needs no field. A struct with a proof beside what it holds (`GoodState { state, ghost good }`) stands in the specs as a
 record that says the same: where such a `good` is handed over, the field is about any `state`, for which the clauses say `good.state`. Of a
 closure `f: F` the field is about what it may give, for which the clauses say `F.post f`. A generic function has a field for each type of the
-table INSTANCES, where its contract says what that type's impl does. Before Only may stand a premise, which is one of the function's
-`requires`. A field whose function went stands in the table GONE, which says what gives its number now.
+table INSTANCES, where its contract says what that type's impl does, and no source may name another type for it (`word_at::<T>`, `let x: T =
+word_at(..)`; a type that the checker alone infers is not seen here). Before Only may stand a premise, which is one of the function's
+`requires`. A function of the table AS_OUTCOMES hands back what `moved` makes an outcome of: beside the field about that, only_CRATE_NAME, it
+has the field only_NAME about the outcome, which is the same contract with `moved result state` read as the result. Each field belongs to a
+function, but for only_gives and only_gives_to_c, which speak of all that a rule gives.
 
 A use line that renames a name or brings a whole module is not followed, and fails what it stands above. Functions of one name share the
 field, and each is held to it. A function is public if its file is open from the crate's root on, or its type is declared in one that is. One
@@ -32,6 +35,7 @@ with a `requires` is named as such: only proved code calls it.
   python3 tools/contracts.py [ROOT]         ROOT is a folder with crates/ in it; else the repository
 
 The last line printed is 'contracts: N passed, M failed'."""
+import copy
 import os
 import re
 import sys
@@ -49,16 +53,12 @@ PRELUDE = "Rattle.std.specs.Prelude"
 # what in_antt writes, and a name that the rules give to one of these
 TYPES = {word: PRELUDE for word in ("ℕ", "List", "Bool", "Option", "Result")} | {"Answer": "Rattle.rules.specs.Answers"}
 # the field of a generic function, for each type that stands for its parameter
-INSTANCES = {"codec::word_at": {"u16": "word_at", "rules::RamByte": "ram_byte_at", "rules::FlashWord": "flash_word_at"}}
+INSTANCES = {"codec::word_at": {"u16": "word_at", "usize": "word_at", "rules::RamByte": "ram_byte_at", "rules::FlashWord": "flash_word_at"}}
 # what the impl of a type of std says, as for those of the crates: the names of its parameters and its result, the text, and what brings its words
-SAYS = {("From<u16>", "u16", "from_gives"): (["n", "r"], "r ≡ n", "ghost use Rattle.std.specs.Prelude.{◌≡◌};")}
-# fields of functions that went, and what gives the same now
-GONE = {"joined": "u16::from_le_bytes", "byte_of": "RamByte::from(u16::from_le_bytes(..))", "word_of": "FlashWord::from(u16::from_le_bytes(..))",
-        "low": "the first byte of u16::to_le_bytes", "high": "the second byte of u16::to_le_bytes",
-        "zero_byte": "RamByte::default", "zero_word": "FlashWord::default"}
-
-# fields about an outcome, beside those about what the functions of that name hand back, which `moved` makes an outcome of
-AS_OUTCOMES = ("call_with", "ret_with")
+SAYS = {("From<u16>", of, "from_gives"): (["x", "y"], "y ≡ x", "ghost use Rattle.std.specs.Prelude.{◌≡◌};") for of in ("u16", "usize")}
+# functions with a field about the outcome, beside the one about what they hand back, and what makes an outcome of that
+AS_OUTCOMES = ("operations::call_with", "operations::ret_with")
+MOVED = ("moved", "Rattle.rules.specs.Answers")
 
 
 def read(path, comment):
@@ -169,7 +169,7 @@ class Function:
         self.generic = ", ".join(bound for bound in bounds if bound.split(":")[0] not in gives)
         self.held = {name: holds[kind] for name, kind in given if kind in holds}
         self.closures = {name: f"{kind}.post {name}" for name, kind in given if kind in gives}
-        given = [self.held.get(name, (name, kind)) for name, kind in given]
+        handed, given = given, [self.held.get(name, (name, kind)) for name, kind in given]
         self.given = {name: " → ".join([*gives[kind], "Type 0"]) if kind in gives else in_antt(kind, arrays) for name, kind in given}
         self.hands = in_antt(hands, arrays) if hands else None
         self.lent = [name for name, kind in given if re.match(r"&\s*mut\b", kind)]
@@ -177,6 +177,8 @@ class Function:
         self.ensures = [text for kind, text in clauses if kind == "ensures"]
         self.requires = [text for kind, text in clauses if kind == "requires"]
         self.mixed = len(self.given) < len(given)
+        self.states = [f"{name}.{self.held[name][0]}" if name in self.held else name for name, kind in handed
+                       if self.held.get(name, (name, kind))[1] == "State"]
 
     def as_field(self, text, result):
         """A clause as a field writes it, where the field calls the result by this name."""
@@ -196,6 +198,21 @@ class Function:
         if bare := re.search(rf"(?<![\w'.@])({'|'.join([*self.shown, *self.lent]) or '@'})(?![\w'])", text):
             raise ValueError(f"a clause names `{bare.group(1)}` without saying when: {text}")
         return re.sub(r"(?<![\w'.])result(?![\w'])", result or "result", text.replace("@", ""))
+
+
+def as_outcome(function, brought):
+    """A function that hands back what `moved` makes an outcome of, as one that hands back that outcome."""
+    if len(function.states) != 1 or origin("moved", brought) != {MOVED}:
+        raise ValueError("it is handed more than one state or none, or its `moved` is none of the rules")
+    whole = copy.copy(function)
+    whole.hands, whole.ensures = "Outcome", []
+    for text in function.ensures:
+        moved = rf"moved result {re.escape(function.states[0])}(?![\w'.])"
+        text, times = re.subn(rf"\({moved}\)|(?<![\w'.]){moved}", "@", text)
+        if times != 1 or re.search(r"(?<![\w'.])(result|moved)(?![\w'])", text):
+            raise ValueError(f"a clause is not about one outcome, `moved result {function.states[0]}`: {text}")
+        whole.ensures.append(text.replace("@", "result"))
+    return whole
 
 
 def blocks(text):
@@ -303,6 +320,16 @@ def home(word, crate, source):
     return brought.pop() if len(brought) == 1 else ""
 
 
+def instances(name, crate, source):
+    """The types that a source names for a generic function, each with the crate that it is from."""
+    if re.search(rf"\b{name}\s+as\s+\w+\s*[,;}}]", source):
+        raise ValueError(f"`{name}` is renamed in crate {crate}, which this test does not follow")
+    found = re.findall(rf"\b{name}\s*::\s*<((?:[^<>]|<[^<>]*>)*)>", source)
+    found += re.findall(rf"\blet\s+(?:mut\s+)?\w+\s*:\s*([^=;]*?)\s*=\s*(?:\w+\s*::\s*)*{name}\s*\(", source)
+    for kind in dict.fromkeys(re.sub(r"^crate::", f"{crate}::", "".join(kind.split())) for kind in found):
+        yield f"{home(kind, crate, source)}::{kind}" if re.fullmatch(r"[A-Z]\w*", kind) else kind
+
+
 def same_types(kinds, source, taken, holds):
     """Raise ValueError if a word of some types is from another place in the specs than in the source; a record beside them is the type itself."""
     for word in {word for kind in kinds for word in re.findall(WORD, kind)} - BUILT_IN:
@@ -402,7 +429,7 @@ def main(root):
     crates = os.path.join(root, "crates")
     found = [(crate, *file) for crate in sorted(os.listdir(crates)) for first in ("lib", "main")
              for file in files(os.path.join(crates, crate, "src"), first)]
-    says, held, arrays, public, judged, leaves, seen = dict(SAYS), {}, {}, set(), [], [], set()
+    says, held, arrays, public, judged, leaves, seen, wrong = dict(SAYS), {}, {}, set(), [], [], set(), []
 
     def tried(full, good, test, *words):
         try:
@@ -433,14 +460,17 @@ def main(root):
                 letter, _, bound = (function.generic or "").partition(": ")
                 of_kind = {f"{letter}.{member}": what for (trait, of, member), what in says.items() if (trait, of) == (bound, kind)}
                 tried(f"{full}{kind and f' for {kind}'}", "unique", judge, root, crate, source, function, stated.get(name), taken, holds, of_kind)
+            if full in AS_OUTCOMES:
+                seen.add(function.name)
+                tried(f"{full} as an outcome", "unique", lambda: judge(
+                    root, crate, source, as_outcome(function, uses(source, GHOST_USE)), stated.get(function.name), taken, holds, {}))
             if function.requires:
                 leaves.append(full)
-    wrong = [f"a record {name}, and no public struct says the same" for name in records]
-    wrong += [f"a field only_{name}, and no public function has that name" for name in sorted(set(stated) - seen - set(GONE) - set(AS_OUTCOMES) - {"gives", "gives_to_c"})]
-    wrong += [f"no field only_{name}" for name in GONE if name not in stated]
-    wrong += [f"only_{name}, and a public function that went has that name" for name in GONE if name in seen]
-    print("\n".join(f"gone: only_{name}: {gives}" for name, gives in GONE.items()))
-    print("".join(f"FAILED: {FIELDS} has {what}\n" for what in wrong), end="")
+        wrong += [f"{'::'.join((crate, *inner))} names the type {kind} for {full}, and the table INSTANCES lacks it"
+                  for full, table in INSTANCES.items() for kind in instances(full.split("::")[-1], crate, source) if kind not in table]
+    wrong += [f"{FIELDS} has a record {name}, and no public struct says the same" for name in records]
+    wrong += [f"{FIELDS} has a field only_{name}, and no public function has that name" for name in sorted(set(stated) - seen - {"gives", "gives_to_c"})]
+    print("".join(f"FAILED: {what}\n" for what in wrong), end="")
     print("with a requires, called by proved code alone: " + (", ".join(leaves) or "none"))
     if not seen:
         wrong.append("nothing to be judged")

@@ -209,17 +209,6 @@ def function_at(place, line, column, crate, folder):
     return "::".join([owner, *(path.split("/") if path != "lib" else []), heads[-1][1]])
 
 
-def used_above(function, folder):
-    """The lemma files of its crate from which `using(..)` above a function names one."""
-    crate, *_, name = function.split("::")
-    found = set()
-    for file in glob.glob(os.path.join(folder, "crates", crate, "src", "**", "*.rt"), recursive=True):
-        with open(file, encoding="utf-8") as source:
-            for above in re.findall(rf"^\s*#\[tactic\((.*)\)\]\n\s*(?:pub )?fn {name}\b", source.read(), re.M):
-                found |= set(re.findall(r"crate::proofs::(\w+)::", above))
-    return found
-
-
 def facts(text, crate, folder):
     """The facts that are refused in what the checker printed of a crate in a folder, as 'CRATE: FACT', and what else it refuses. What only
     waits for another fact is not counted."""
@@ -237,13 +226,9 @@ def facts(text, crate, folder):
         found.append(f"{function.partition('::')[0]}: fn {function} {goal}")
     for function, why in re.findall(r"^fn (\S+): no proof: (.*)$", text, re.M):
         if not WAITS.match(why):
-            own = function.partition("::")[0]
             names = re.findall(r"`([^`]+)`", why.partition("`search` did not prove ")[2])
-            # the check tells no goal of a function above which `using(..)` names a lemma of a file in which one is refused: it waits for that one
-            files = {fact.partition(": proofs/")[2].partition(".antt ")[0] for fact in found if fact.startswith(f"{own}: proofs/")}
-            waits = why.startswith("expected answers in ") and files & used_above(function, folder)
-            found += [f"{own}: fn {function} {name}" for name in names]
-            other += [] if names or waits else [f"{function}: no proof, {why[:200]}"]
+            found += [f"{function.partition('::')[0]}: fn {function} {name}" for name in names]
+            other += [] if names else [f"{function}: no proof, {why[:200]}"]
     return list(dict.fromkeys(found)), other
 
 

@@ -20,7 +20,6 @@ sys.dont_write_bytecode = True
 ROOT = Path(__file__).resolve().parent.parent
 sys.path.insert(0, str(ROOT / "tools"))
 
-import contracts
 import hmtscript
 import must_fail
 import replay
@@ -510,7 +509,6 @@ pub extern "C" fn clear(out: &mut [u8])
 """,
         }
         files |= more
-        files["crates/promises/specs/Uniqueness.antt"] += "".join(f"  pub only_{name} : Only (λ r. r ≡ 0)\n" for name in contracts.GONE)
         for name, old, new in changes:
             name = next(path for path in files if path.endswith(name))
             self.assertIn(old, files[name])
@@ -709,9 +707,9 @@ pub fn find(good: GoodState, line: &Line) -> Option<RamByte>
 
     def test_contracts_of_methods_impls_and_generic_functions(self):
         page = self.contracts(**self.TYPES)
-        self.assertTrue(page.endswith("alone: thing::hold\ncontracts: 12 passed, 0 failed\n"), page)
+        self.assertTrue(page.endswith("alone: thing::hold\ncontracts: 13 passed, 0 failed\n"), page)
         self.assertIn("contract codec::word_at for rules::RamByte: unique\n", page)
-        self.assertIn("gone: only_low: the first byte of u16::to_le_bytes\n", page)
+        self.assertIn("contract codec::word_at for usize: unique\n", page)
         rules, codec, good, inner, thing, own, record = (
             "rules/src/lib.rt", "codec/src/lib.rt", "good/src/lib.rt", "inner.rt", "thing/src/lib.rt", "Own.antt", "Uniqueness.antt")
         for wrong, failed, *change in (
@@ -719,9 +717,9 @@ pub fn find(good: GoodState, line: &Line) -> Option<RamByte>
                 ("`ram_byte` is from Rattle.other, and in its field from Rattle.rules.specs.State", 2, rules, "rules.specs.State.{ram_byte}", "other.{ram_byte}"),
                 ("it has no contract", 2, rules, "ghost from_gives = { λ n r. r ≡ ram_byte n };", ""),
                 ("RamByte::from: its ghost member has other parameters", None, rules, "λ n r. r ≡ ram_byte n", "λ n m r. r ≡ ram_byte n"),
-                ("its field says", 3, codec, "(word_at bytes.now at) result", "(word_at bytes.now 0) result"),
+                ("its field says", 4, codec, "(word_at bytes.now at) result", "(word_at bytes.now 0) result"),
                 ("it is generic, and the table INSTANCES has no type for it", 4, codec, "fn word_at<", "fn item_at<"),
-                ("it is generic, and the table INSTANCES has no type for it", 3, codec, "W: From<u16>", "W: From<u8>"),
+                ("it is generic, and the table INSTANCES has no type for it", 4, codec, "W: From<u16>", "W: From<u8>"),
                 ("has no record that says the same", 1, good, "pub ghost good: { good_state state ≡ true }", "pub ghost good: { good_state state ≡ false }"),
                 ("has no record that says the same", 1, record, "pub good : good_state state ≡ true", "pub good : true ≡ true"),
                 ("has a record Bad, and no public struct says the same", 1, record, "pub record Uniqueness", "pub record Bad : Type 0 where\n  pub n : ℕ\n\npub record Uniqueness"),
@@ -742,13 +740,129 @@ pub fn find(good: GoodState, line: &Line) -> Option<RamByte>
                 ("`ℕ` is from nowhere, and in its field from Rattle.std.specs.Prelude", 1, thing, "{◌≡◌, ℕ}", "{◌≡◌}"),
                 ("`Gives`, a parameter of its field, is none of its own", 1, own, "(State → ℕ → Type 0) → ℕ", "(ℕ → State → Type 0) → ℕ"),
                 ("contract good::inner::GoodState::from: FAILED: it has no contract", 1, inner, "Inner", "GoodState"),
-                ("has only_low, and a public function that went has that name", 1, thing, "pub fn most", "pub fn low() -> u8\n    ensures { result ≡ 0 }\n{ }\n\npub fn most"),
-                ("has no field only_low", 1, record, "  pub only_low : Only (λ r. r ≡ 0)\n", ""),
+                ("crates/promises/specs/Uniqueness.antt has a field only_low, and no public function has that name", 1, record, "  pub only_hold :", "  pub only_low : (n : ℕ) → Only (λ r. r ≡ n)\n  pub only_hold :"),
+                ("has a field only_find, and no public function has that name", 1, thing, "pub fn find", "fn find"),
                 ("has a `pub trait`, which this test does not follow", None, thing, "pub fn most", "pub trait Thing { }\n\npub fn most")):
             with self.subTest(wrong=wrong, change=change):
                 page = self.contracts(change, **self.TYPES)
                 self.assertIn(wrong, page)
                 self.assertTrue(page.endswith(f", {failed} failed\n" if failed else "contracts: 0 passed, 1 failed\n"), page)
+
+    def test_contracts_of_a_generic_function_at_the_types_that_sources_name(self):
+        inner, thing = "inner.rt", "thing/src/lib.rt"
+        for body, named in (("word_at::<usize>(bytes, 2)", ""), ("let at: usize = word_at(bytes, 2);", ""), ("let mut a: RamByte = codec::word_at(bytes, 2);", ""),
+                            ("word_at::<rules::FlashWord>(bytes, 2)", ""), ("let n: u64 = 4 + word_at(bytes, 2);", ""), ("reword_at::<u64>(bytes, 2)", ""),
+                            ("word_at::<u64>(bytes, 2)", "u64"), ("codec::word_at::< u32 >(bytes, 2)", "u32"), ("let n: u64 = word_at(bytes, 2);", "u64"),
+                            ("let mut n : i32 =\n        codec::word_at (bytes, 2);", "i32"), ("word_at::<Line>(bytes, 2)", "rules::Line"),
+                            ("let r: RamAddress = word_at(bytes, 2);", "thing::RamAddress"), ("word_at::<Wide<u16>>(bytes, 2)", "Wide<u16>"),
+                            ("word_at::<_>(bytes, 2)", "_"), ("some(2).map(word_at::<u64>)", "u64"), ("word_at::<crate::RamByte>(bytes, 2)", "thing::RamByte")):
+            with self.subTest(body=body):
+                page = self.contracts((thing, "found good.state line.now }\n{ }", f"found good.state line.now }}\n{{\n    {body}\n}}"), **self.TYPES)
+                said = f"FAILED: thing names the type {named} for codec::word_at, and the table INSTANCES lacks it\n"
+                self.assertEqual(re.findall(r"FAILED.*\n", page), [said] if named else [])
+                self.assertTrue(page.endswith(f"contracts: 13 passed, {int(bool(named))} failed\n"), page)
+        # in a file that is not open, too
+        page = self.contracts((inner, "Inner(n)", "Inner(word_at::<u64>(n))"), **self.TYPES)
+        self.assertIn("FAILED: good::inner names the type u64 for codec::word_at, and the table INSTANCES lacks it\n", page)
+        page = self.contracts((thing, "use good::GoodState", "use codec::word_at as number;\nuse good::GoodState"), **self.TYPES)
+        self.assertTrue(page.endswith("FAILED: `word_at` is renamed in crate thing, which this test does not follow\ncontracts: 0 passed, 1 failed\n"), page)
+
+    # Two functions that hand back what `moved` makes an outcome of, one with a state that is known to be good.
+    OUTCOMES = {
+        "crates/promises/specs/Uniqueness.antt": """
+use Rattle.std.specs.Prelude.{ℕ, ◌≡◌, true, List}
+use Rattle.rules.specs.declared.State.{State}
+use Rattle.rules.specs.declared.Outcome.{Outcome}
+use Rattle.rules.specs.State.{good_state}
+use Rattle.rules.specs.Answers.{Gives, moved}
+use Rattle.rules.specs.Operations.{call_of}
+
+pub record GoodState : Type 0 where
+  pub state : State
+  pub good : good_state state ≡ true
+
+pub record Uniqueness : Type 1 where
+  pub only_call_with : (table_of : ℕ → List ℕ) (state : State) (ram : List ℕ) (word : ℕ)
+      → Only2 (λ r ram'. Gives r ram' (call_of state ram (table_of word)))
+  pub only_operations_call_with : (table_of : ℕ → List ℕ) (state : State) (ram : List ℕ) (word : ℕ)
+      → Only2 (λ r ram'. Gives (moved r state) ram' (call_of state ram (table_of word)))
+  pub only_ret_with : (returning : State → Outcome) (state : State) → Only (λ r. r ≡ returning state)
+  pub only_operations_ret_with : (returning : State → Outcome) (state : State) → Only (λ r. moved r state ≡ returning state)
+""",
+        "crates/good/src/lib.rt": """
+ghost use Rattle.std.specs.Prelude.{◌≡◌, true};
+ghost use Rattle.rules.specs.State.{good_state};
+
+use rules::State;
+
+pub struct GoodState {
+    pub state: State,
+    pub ghost good: { good_state state ≡ true },
+}
+""",
+        "crates/operations/specs/Rows.antt": "abbrev pub table_of : ℕ → List ℕ\ntable_of word = replicate 9 word\n\n"
+                                             "abbrev pub returning : State → Outcome\nreturning s = popped s\n",
+        "crates/operations/src/lib.rt": """
+ghost use Rattle.std.specs.Prelude.{◌≡◌};
+ghost use Rattle.rules.specs.Answers.{Gives, moved};
+ghost use Rattle.rules.specs.Operations.{call_of};
+ghost use Rattle.operations.specs.Rows.{table_of, returning};
+
+use good::GoodState;
+use rules::{Done, Outcome, Ram, Refusal, State};
+
+pub fn call_with(good: GoodState, ram: &mut Ram, word: u16) -> Result<Done, Refusal>
+    ensures { Gives (moved result good.state) ram.new (call_of good.state ram.old (table_of word)) }
+{ }
+
+pub fn ret_with(state: State) -> Result<Done, Refusal>
+    ensures { moved result state ≡ returning state }
+{ }
+""",
+        "crates/rules/src/lib.rt": "pub type Ram = [u8; 4096];\n",
+        "crates/thing/src/lib.rt": "",
+    }
+
+    def test_contracts_of_what_is_made_an_outcome(self):
+        """Each has two fields, one about what it hands back and one about the outcome, and both are held to its clause."""
+        page = self.contracts(**self.OUTCOMES)
+        self.assertTrue(page.endswith("contracts: 5 passed, 0 failed\n"), page)
+        for full in ("operations::call_with", "operations::ret_with"):
+            self.assertIn(f"contract {full}: unique\ncontract {full} as an outcome: unique\n", page)
+        lib, rows, record = "operations/src/lib.rt", "Rows.antt", "Uniqueness.antt"
+        moved = "operations.{call_of};"
+        for wrong, failed, *change in (
+                # a field about the outcome that says something else, or of something else
+                ("call_with as an outcome: FAILED: its field says", 1, record, "Gives r ram' (call_of state ram (table_of word))", "Gives r ram' (call_of state ram (table_of 0))"),
+                ("call_with as an outcome: FAILED: its field says", 1, record, "Gives r ram' (call_of", "Gives r ram (call_of"),
+                ("call_with as an outcome: FAILED: its field says", 1, record, "Gives r ram' (call_of", "Gives (moved r state) ram' (call_of"),
+                ("call_with as an outcome: FAILED: its field is about other parameters", 1, record, "only_call_with : (table_of : ℕ → List ℕ) (state : State) (ram : List ℕ) (word : ℕ)", "only_call_with : (table_of : ℕ → List ℕ) (state : State) (ram : List ℕ)"),
+                ("call_with as an outcome: FAILED: its field is about r, and it leaves its result, ram'", 1, record, "Only2 (λ r ram'. Gives r", "Only (λ r. Gives r"),
+                ("ret_with as an outcome: FAILED: its field says", 1, record, "(λ r. r ≡ returning state)", "(λ r. returning state ≡ r)"),
+                ("ret_with as an outcome: FAILED: its field is about other parameters, or another result", 1, record, "(λ r. r ≡ returning state)", "(λ (r : State). r ≡ returning state)"),
+                ("ret_with as an outcome: FAILED: `returning`, a parameter of its field, is none of its own", 1, record, "only_ret_with : (returning : State → Outcome)", "only_ret_with : (returning : State → State)"),
+                ("ret_with as an outcome: FAILED: `returning`, a parameter of its field, is none of its own", 2, rows, "returning : State → Outcome", "returning : State → State"),
+                # a clause that does
+                ("call_with as an outcome: FAILED: its field says", 2, lib, "(call_of good.state ram.old (table_of word))", "(call_of good.state ram.old (table_of 0))"),
+                ("call_with as an outcome: FAILED: its field says", 2, lib, "Gives (moved result good.state) ram.new", "Gives (moved result good.state) ram.old"),
+                ("call_with as an outcome: FAILED: a clause is not about one outcome, `moved result good.state`", 2, lib, "Gives (moved result good.state)", "Gives (moved result good.state.next)"),
+                ("call_with as an outcome: FAILED: a clause is not about one outcome", 2, lib, "Gives (moved result good.state)", "Gives result"),
+                ("call_with as an outcome: FAILED: a clause is not about one outcome", 2, lib, "Gives (moved result good.state)", "Gives (kept result good.state)"),
+                ("call_with as an outcome: FAILED: a clause is not about one outcome", 2, lib, "(table_of word)) }", "(table_of word)) }\n    ensures { word ≡ word }"),
+                ("ret_with as an outcome: FAILED: a clause is not about one outcome", 2, lib, "≡ returning state }", "≡ moved result state }"),
+                ("ret_with as an outcome: FAILED: a clause is not about one outcome", 2, lib, "≡ returning state }", "≡ returning result }"),
+                ("ret_with as an outcome: FAILED: it is handed more than one state or none", 2, lib, "ret_with(state: State)", "ret_with(state: State, other: State)"),
+                ("its `moved` is none of the rules", 4, lib, "ghost use Rattle.rules.specs.Answers.{Gives, moved};", "ghost use Rattle.rules.specs.Answers.{Gives};\nghost use other.Place.{moved};"),
+                ("`Gives` is from other.Place, and in its field from Rattle.rules.specs.Answers", 2, lib, "ghost use Rattle.rules.specs.Answers.{Gives, moved};", "ghost use Rattle.rules.specs.Answers.{moved};\nghost use other.Place.{Gives};"),
+                # a field without its function, and a function without its field
+                ("has a field only_ret_with, and no public function has that name", 2, lib, "pub fn ret_with", "fn ret_with"),
+                ("has a field only_call_with, and no public function has that name", 3, lib, "pub fn call_with", "pub fn call_by"),
+                ("ret_with as an outcome: FAILED: crates/promises/specs/Uniqueness.antt has no field of its name", 2, record, "only_ret_with", "only_return_with"),
+                ("contract operations::ret_with: FAILED: its field says", 2, record, "only_operations_ret_with", "only_operations_return_with")):
+            with self.subTest(wrong=wrong, change=change):
+                page = self.contracts(change, **self.OUTCOMES)
+                self.assertIn(wrong, page)
+                self.assertTrue(page.endswith(f", {failed} failed\n"), page)
 
     # ---- addresses ----
 
@@ -882,8 +996,7 @@ class MustFail(unittest.TestCase):
         f"{ONE}:3:5: error: `returns`: the two types differ\nfn one::nine: no proof: it calls `one::eight`, which is not proved": "",
         f"{ONE}:3:5: error: `returns`: the two types differ\nfn one::nine: no proof: expected invariants in there; it has a loop": "for another reason",
         f"{ONE}:3:5: error: `returns`: the two types differ\nfn one::nine: no proof: expected answers in there": "for another reason",
-        f"{ONE}:3:5: error: `returns`: the two types differ\n./proofs/Law.antt:3:5: error: `law`: the two types differ\nfn one::nine: no proof: expected answers in there": "",
-        f"{ONE}:3:5: error: `returns`: the two types differ\n./proofs/Other.antt:3:5: error: `law`: the two types differ\nfn one::nine: no proof: expected answers in there": "for another reason",
+        f"{ONE}:3:5: error: `returns`: the two types differ\n./proofs/Law.antt:3:5: error: `law`: the two types differ\nfn one::nine: no proof: expected answers in there": "for another reason",
     }
 
     def edit(self, folder, name, words, old, new):
@@ -900,7 +1013,7 @@ class MustFail(unittest.TestCase):
                 Path(path).write_text(Path(path).read_text(encoding="utf-8").replace("src/lib.rt", file), encoding="utf-8")
                 self.assertRaises(ValueError, must_fail.Edit, path)
             Path(folder, "crates/one/src").mkdir(parents=True)
-            Path(folder, "crates/one/src/lib.rt").write_text(EIGHT + "#[tactic(auto, using(crate::proofs::Law::law))]\nfn nine() {\n    9\n}\n", encoding="utf-8")
+            Path(folder, "crates/one/src/lib.rt").write_text(EIGHT + "fn nine() {\n    9\n}\n", encoding="utf-8")
             for text, why in self.PRINTED.items():
                 with self.subTest(text=text):
                     if why:

@@ -2,7 +2,7 @@
 // from outside. A block is 8 bytes here and nowhere else in the code.
 #![tactic(auto)]
 
-ghost use Rattle.std.specs.Prelude.{◌≡◌, ◌&&◌, ◌+◌, ◌-◌, ◌≤◌, ◌<◌};
+ghost use Rattle.std.specs.Prelude.{◌≡◌, ◌&&◌, ◌+◌, ◌-◌, ◌*◌, ◌≤◌, ◌<◌};
 ghost use Rattle.rules.specs.Memory.{start_of, block_of, is_multiple, blocks_for, ram_bytes};
 ghost use Rattle.rules.specs.Code.{flash_word};
 ghost use Rattle.rules.specs.State.{ram_byte};
@@ -104,6 +104,38 @@ pub fn last_byte() -> RamByte
     ensures { result ≡ ram_byte (ram_bytes - 1) }
 {
     RamByte(RAM_BYTES - 1)
+}
+
+// The zero of a refused set-up's state.
+pub fn zero_byte() -> RamByte
+    ensures { result ≡ ram_byte 0 }
+{
+    RamByte::default()
+}
+
+pub fn zero_word() -> FlashWord
+    ensures { result ≡ flash_word 0 }
+{
+    FlashWord::default()
+}
+
+// Sixteen bits of a frame, a script or a slot, low byte first.
+pub fn joined(low: u8, high: u8) -> u16
+    ensures { result ≡ low + 256 * high }
+{
+    u16::from_le_bytes([low, high])
+}
+
+pub fn byte_of(low: u8, high: u8) -> RamByte
+    ensures { result ≡ ram_byte (low + 256 * high) }
+{
+    RamByte::from(joined(low, high))
+}
+
+pub fn word_of(low: u8, high: u8) -> FlashWord
+    ensures { result ≡ flash_word (low + 256 * high) }
+{
+    FlashWord::from(joined(low, high))
 }
 
 // An entry of a jump table; public, and so it stays beside From.

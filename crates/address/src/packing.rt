@@ -8,7 +8,8 @@ use rules::{Block, Config, RamByte};
 
 pub const PER_BYTE: u16 = 2;
 
-// How many map bytes hold the codes of n blocks. By ((n as u32 + (PER_BYTE as u32 - 1)) / PER_BYTE as u32) as u16 every operation takes six instructions more, and a call then more than the C.
+// How many map bytes hold the codes of n blocks: a sum in a wider type, since with the library's `div_ceil` in this place a store takes two
+// instructions more, and malloc, free and change six.
 #[tactic(auto, unfolding(rules::specs::Memory::map_bytes_for, rules::specs::Memory::divided_up, rules::specs::Memory::per_byte))]
 pub fn map_bytes_for(config: Config, n: u16) -> u16
     ensures { result ≡ map_bytes_for (layout_of config) n }

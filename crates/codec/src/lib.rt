@@ -12,5 +12,5 @@ pub fn word_at<W: From<u16>>(bytes: &[u8], at: usize) -> W
     requires { at + 1 < length bytes.now }
     ensures { W.from_gives (word_at bytes.now at) result }
 {
-    W::from(u16::from_le_bytes([bytes[at], bytes[at + 1]]))
+    W::from(address::joined(bytes[at], bytes[at + 1]))
 }

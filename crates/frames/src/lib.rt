@@ -5,12 +5,12 @@
 ghost use Rattle.std.specs.Prelude.{◌≡◌, ◌+◌, ◌≤◌, ◌<◌, length, take};
 ghost use Rattle.std.proofs.lemmas.List.Edits.{sets};
 ghost use Rattle.rules.specs.Memory.{ram_bytes};
+ghost use Rattle.rules.specs.Bytes.{low, high};
 ghost use Rattle.rules.specs.Call.{frame_bytes};
 ghost use Rattle.rules.specs.Return.{read_frame};
 ghost use Rattle.rules.specs.declared.Frame.TheVariants.{Local, Cross};
 
 use address::domains::TRUSTED;
-use codec::word_at;
 use rules::{FlashWord, Frame, RamByte};
 
 // How many bytes a local frame takes, and a cross-domain one: frames of other bytes, so each has its function that writes it.
@@ -21,14 +21,25 @@ pub const CROSS_BYTES: u16 = 5;
 // A tag is a number: document 01 fixes 255 and 0 to 7, and a domain is its own tag.
 const LOCAL_TAG: u8 = 255;
 
+pub fn low(n: u16) -> u8
+    ensures { result ≡ low n }
+{
+    n.to_le_bytes()[0]
+}
+
+pub fn high(n: u16) -> u8
+    ensures { result ≡ high n }
+{
+    n.to_le_bytes()[1]
+}
+
 #[tactic(auto, using(crate::proofs::Written::copied))]
 fn push_local(area: &mut [u8], used: u16, site: FlashWord)
     requires { (used + length (frame_bytes (Local site)) ≤ length area.old) × (length area.old ≤ ram_bytes) }
     ensures { area.new ≡ sets area.old used (frame_bytes (Local site)) }
 {
     let at = used as usize;
-    let [low, high] = site.0.to_le_bytes();
-    area[at..at + 3].copy_from_slice(&[low, high, LOCAL_TAG]);
+    area[at..at + 3].copy_from_slice(&[low(site.0), high(site.0), LOCAL_TAG]);
 }
 
 #[tactic(auto, using(crate::proofs::Written::copied))]
@@ -37,9 +48,13 @@ fn push_cross(area: &mut [u8], used: u16, site: FlashWord, bound: RamByte, domai
     ensures { area.new ≡ sets area.old used (frame_bytes (Cross site bound domain)) }
 {
     let at = used as usize;
-    let [site_low, site_high] = site.0.to_le_bytes();
-    let [bound_low, bound_high] = bound.0.to_le_bytes();
-    area[at..at + 5].copy_from_slice(&[site_low, site_high, bound_low, bound_high, domain]);
+    area[at..at + 5].copy_from_slice(&[
+        low(site.0),
+        high(site.0),
+        low(bound.0),
+        high(bound.0),
+        domain,
+    ]);
 }
 
 pub fn push(area: &mut [u8], used: u16, frame: Frame)
@@ -63,11 +78,15 @@ pub fn pop(area: &[u8], used: u16) -> Frame
     match tag {
         LOCAL_TAG if LOCAL_BYTES <= used => {
             let at = (used - LOCAL_BYTES) as usize;
-            Frame::Local(word_at(area, at))
+            Frame::Local(address::word_of(area[at], area[at + 1]))
         }
         0..=TRUSTED if CROSS_BYTES <= used => {
             let at = (used - CROSS_BYTES) as usize;
-            Frame::Cross(word_at(area, at), word_at(area, at + 2), tag)
+            Frame::Cross(
+                address::word_of(area[at], area[at + 1]),
+                address::byte_of(area[at + 2], area[at + 3]),
+                tag,
+            )
         }
         _ => Frame::Damage,
     }

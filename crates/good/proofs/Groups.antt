@@ -1,14 +1,15 @@
 -- The rules of a configuration in the groups in which the code tests them, and what a loop over the ranges has left.
 -- Assumes nothing.
-use Prim.Native.Nat.{ℕ, suc, ◌+◌, ◌≤◌, ◌<◌}
+use Prim.Native.Nat.{ℕ, suc, ◌+◌, ◌-◌, ◌≤◌, ◌<◌}
 use mathlib.Core.Path.{◌≡◌, refl, sym, ◌∙◌}
-use mathlib.Core.Bool.{Bool, true, false, ◌&&◌, and-false, and_assoc, and_comm}
+use mathlib.Core.Bool.{Bool, true, false, ◌&&◌, and-true, and-false, and_assoc, and_comm}
 use mathlib.Core.List.{List, ◌∷◌}
 use native.Mathlib.Omega.{arith}
 use native.Mathlib.Numerals.{add-one}
 use lib.Dec.{leb}
 use lib.ListN.{length, get_or, drop, drop_of_length-le}
 use lib.Seq.{drop-cons}
+use borrow.Author.Tests.{lt-ltb, le-ltb, le-leb, lt-leb, ne_eqb}
 use Rattle.rules.specs.declared.FlashWord.{FlashWord}
 use Rattle.rules.specs.declared.Range.{Range}
 use Rattle.rules.specs.declared.Config.{Config}
@@ -57,7 +58,7 @@ module _ (c : Config) where
   pub order_decides : rest_good c ≡ true → in_order c ≡ good_config c
   order_decides h = sym (by_order ∙ and_comm (in_order c) (rest_good c) ∙ left_true (rest_good c) _ h)
 
-  in_bounds : bounds_good c ≡ true → (multiples c ≡ true) × (in_order c ≡ true)
+  pub in_bounds : bounds_good c ≡ true → (multiples c ≡ true) × (in_order c ≡ true)
   in_bounds h = both (multiples c) (in_order c) (sym bounds_parts ∙ h)
 
   pub rest_decides : bounds_good c ≡ true → rest_good c ≡ good_config c
@@ -68,12 +69,31 @@ pub end_fits : (c : Config) → c.bot.0 < c.top.0 → c.top.0 ≤ ram_bytes → 
 unfolding map_bytes blocks
 end_fits c bt tr = omega (arith, map_bytes_for_le (layout_of c) (block_of c c.top), block_small c c.top)
 
+-- where the other bounds hold, the map's end decides
+pub end_decides : (c : Config) → c.bot.0 < c.top.0 → c.heap.0 ≤ c.safe.0 → c.safe.0 ≤ c.top.0 → c.top.0 ≤ ram_bytes
+    → leb (c.bot.0 + map_bytes c) c.heap.0 ≡ in_order c
+end_decides c bt hs st tr = simp (lt-ltb _ _ bt, le-leb _ _ hs, le-leb _ _ st, le-leb _ _ tr, and-true)
+
 -- domain, bound and safe pointer
 abbrev pub run_good : State → Bool
 run_good s = domain_good s && bound_good s && safepointer_good s
 
 -- a state, by its fields
 module _ (s : State) where
+  pub bound_above : ram_bytes ≤ s.bound.0 → false ≡ run_good s
+  bound_above h = simp (le-ltb _ _ h, and-false)
+
+  pub bound_below : s.bound.0 + 1 < s.config.top.0 → false ≡ run_good s
+  bound_below h = simp (lt-leb (s.config.top.0 - 1) s.bound.0 (omega arith), and-false)
+
+  pub pointer_below : s.safepointer.0 < s.config.safe.0 → false ≡ run_good s
+  pointer_below h = simp (lt-leb _ _ h, and-false)
+
+  pub pointer_decides : domain_good s ≡ true → s.bound.0 < ram_bytes → s.config.top.0 ≤ s.bound.0 + 1
+      → s.config.safe.0 ≤ s.safepointer.0 → leb s.safepointer.0 s.config.top.0 ≡ run_good s
+  pointer_decides d b t l =
+      simp (d, lt-ltb _ _ b, le-leb (s.config.top.0 - 1) s.bound.0 (omega arith), le-leb _ _ l)
+
   state_parts : good_state s ≡ (run_good s && good_config s.config)
   unfolding good_state
   state_parts = (simp and_assoc) ∙ and_comm (good_config s.config) (run_good s)
@@ -86,6 +106,11 @@ module _ (s : State) where
 
   pub config_decides : run_good s ≡ true → good_config s.config ≡ good_state s
   config_decides h = sym (state_parts ∙ left_true (run_good s) _ h)
+
+-- where no earlier way of being apart holds, the last decides
+pub last_decides : (r q : Range) → (r.start.0 ≡ r.end.0 → ⊥) → (q.start.0 ≡ q.end.0 → ⊥) → q.start.0 < r.end.0
+    → leb q.end.0 r.start.0 ≡ apart r q
+last_decides r q a b d = simp (ne_eqb _ _ a, ne_eqb _ _ b, lt-leb _ _ d)
 
 -- ---- loops over the ranges: what is left decides
 

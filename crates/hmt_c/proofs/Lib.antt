@@ -1,3 +1,4 @@
 -- What the proofs of this crate share.
 pub mod Ranges
+pub mod Refused
 pub mod Step

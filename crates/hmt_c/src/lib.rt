@@ -16,7 +16,7 @@ use codec::config::code_range;
 use codec::word_at;
 use good::{GoodConfig, GoodState};
 use operations::looked_at::{caller, domain_of, table_word, top_frame};
-use rules::{Answer, FlashWord, Ram, RamByte, Refusal};
+use rules::{Answer, FlashWord, RAM_BYTES, Ram, RamByte, Refusal};
 use slot::{CONFIG, Slot};
 
 type TableBytes = [u8; 2048];
@@ -30,6 +30,10 @@ fn in_good_state<F: FnOnce(GoodState, &mut Ram, &mut Slot) -> Answer>(
     requires { MayAct F.FnOnce operation }
     ensures { Stepped F.FnOnce operation slot.old ram.old result slot.new ram.new }
 {
+    // Asked by itself: where `as_mut_array` alone asks it, malloc, free and change take four to eight instructions more before they refuse.
+    if ram.len() != RAM_BYTES {
+        return Err(Refusal::WrongSize);
+    }
     let Some(ram) = ram.as_mut_array() else {
         return Err(Refusal::WrongSize);
     };

@@ -89,6 +89,9 @@ owner_free_by four_bits = refl
 start_trusted_by : (w : Width) → start_code_by w trusted ≡ free_code_by w
 start_trusted_by four_bits = refl
 
+owner_domain_by : (w : Width) (code : ℕ) → code < radix_by w → domain_by w (owner_by w code) ≡ true
+owner_domain_by four_bits code h = le-leb (owner_by four_bits code) trusted (omega arith)
+
 start≢free_by : (w : Width) (d : ℕ) → module_by w d ≡ true → start_code_by w d ≢ free_code_by w
 start≢free_by four_bits d h e = omega (arith, ltb-true d trusted h)
 
@@ -158,6 +161,10 @@ module _ (m : Layout) where
   pub start_trusted : start_code m trusted ≡ free_code m
   unfolding start_code free_code
   start_trusted = start_trusted_by m.width
+
+  pub owner_of-domain : (code : ℕ) → code < radix m → domain_by m.width (owner_of m code) ≡ true
+  unfolding owner_of radix
+  owner_of-domain = owner_domain_by m.width
 
   -- ---- codes differ
 

@@ -74,11 +74,11 @@ Fits (Local site) = site.0 < 65536
 Fits (Cross site bound d) = (site.0 < 65536) × (bound.0 < 65536) × (d < 256)
 Fits Damage = Unit
 
-abbrev AllBytes : List ℕ → Type 0
+abbrev pub AllBytes : List ℕ → Type 0
 AllBytes [] = Unit
 AllBytes (x ∷ xs) = (x < 256) × AllBytes xs
 
-byte_at : (xs : List ℕ) → AllBytes xs → (i : ℕ) → get_or xs i 0 < 256
+pub byte_at : (xs : List ℕ) → AllBytes xs → (i : ℕ) → get_or xs i 0 < 256
 byte_at [] h i = omega arith
 byte_at (x ∷ xs) h zero = h.0
 byte_at (x ∷ xs) h (suc i) = byte_at xs h.1 i

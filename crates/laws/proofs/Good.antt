@@ -6,11 +6,11 @@ use Rattle.rules.specs.declared.FlashWord.{FlashWord}
 use Rattle.rules.specs.declared.Range.{Range}
 use Rattle.rules.specs.declared.Config.{Config}
 use Rattle.rules.specs.declared.State.{State}
-use Rattle.rules.specs.Memory.{ram_bytes, layout_of, start_of, block_of, is_multiple, blocks, heap_block, safe_block, map_bytes, map_byte, per_byte, trusted, is_domain}
+use Rattle.rules.specs.Memory.{ram_bytes, layout_of, block_bytes, start_of, block_of, is_multiple, blocks, heap_block, safe_block, map_bytes, map_byte, per_byte, trusted, is_domain}
 use Rattle.rules.specs.Code.{empty_range, range_of, in_range, ordered, all_apart, good_site}
 use Rattle.rules.specs.State.{bot_below_top, map_below_heap, heap_below_safe, safe_below_top, top_in_ram, jt_in_flash, good_config, domain_good, bound_good, safepointer_good, good_state, fresh, zeros}
 use Rattle.laws.proofs.Tests.{by_test, both, each}
-use Rattle.laws.proofs.Blocks.{start_mono, start_le, lt_next, aligned, block_le, block_lt, block_from, block_before}
+use Rattle.laws.proofs.Blocks.{start_lt, start_mono, start_le, lt_next, aligned, block_le, block_lt, block_from, block_before, block_small}
 use Rattle.laws.proofs.Map.{map-room, map_bytes_for_pos, map_byte_lt}
 use Rattle.laws.proofs.Codes.{domain_le, trusted_domain}
 
@@ -178,6 +178,13 @@ module _ {c : Config} (g : GoodConfig c) where
     omega (arith, heap_start, start_mono c l, start_le c a b),
     omega (arith, safe_start, start_mono c u, lt_next c a),
   )
+
+  pub block_fits : {k : ℕ} → k < blocks c → start_of c k + block_bytes c ≤ c.top.0
+  block_fits h = omega (arith, start_lt c h, top_start)
+
+  pub blocks≤ram : blocks c ≤ ram_bytes
+  unfolding blocks
+  blocks≤ram = omega (arith, block_small c c.top)
 
   -- ---- its map lies below the heap
 

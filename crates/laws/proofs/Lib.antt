@@ -17,3 +17,4 @@ pub mod Rows
 pub mod Operations
 pub mod ToC
 pub mod SetUp
+pub mod Answers

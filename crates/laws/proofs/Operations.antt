@@ -21,10 +21,16 @@ use Rattle.laws.proofs.Rows.{row_passed}
 -- ---- the two first rows
 
 module _ (s : State) (ram : List ℕ) (l : Lent) (op : Operation) where
+  pub wrong_lent_lem : wrong_lent l op ≡ true → Gives (record { answer = Err WrongSize; state = s }) ram (operation_of s ram l op)
+  wrong_lent_lem h = rw h (refl, refl, refl)
+
   pub wrong_ram : (length ram ≡ ram_bytes → ⊥) → Gives (record { answer = Err WrongSize; state = s }) ram (operation_of s ram l op)
   wrong_ram h = rw (ne_eqb (length ram) ram_bytes h, or-true) (refl, refl, refl)
 
   module _ (lent : wrong_lent l op ≡ false) (size : length ram ≡ ram_bytes) where
+    pub bad_state : good_state s ≡ false → Gives (record { answer = Err BadState; state = s }) ram (operation_of s ram l op)
+    bad_state g = rw (lent, eq-eqb (length ram) ram_bytes size, g) (refl, refl, refl)
+
     -- past them only the operation's own rows are left
     pub below : good_state s ≡ true → answer_by in_use s ram l op ≡ rows_of s (seen_by in_use s ram) l op
     below g = rw (lent, eq-eqb (length ram) ram_bytes size, g)

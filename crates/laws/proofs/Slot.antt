@@ -1,13 +1,21 @@
--- The slot of document 02, Ask 1: packing and unpacking a state undo each other, and which bytes a call or a return changes.
+-- The slot of document 02, Ask 1: packing and unpacking a state undo each other, which bytes a call or a return changes, and that a good
+-- state's slot holds bytes.
 -- Assumes nothing.
-use Rattle.std.proofs.Common.{ℕ, ◌+◌, ◌≡◌, refl, sym, ap, ◌∙◌, List, [], ◌∷◌, ◌++◌, append-nil, arith, length, get_or, take, drop, length-append, drop_of_length-le, take_at, drop-cons, get_or-drop, get_or-append-add, drop_at}
+use Rattle.std.proofs.Common.{ℕ, ◌+◌, ◌<◌, ◌≤◌, ◌≡◌, refl, sym, ap, ◌∙◌, true, List, [], ◌∷◌, ◌++◌, append-nil, arith, length, get_or, take, drop, length-append, drop_of_length-le, leb, leb-true, take_at, drop-cons, get_or-drop, get_or-append-add, drop_at}
 use Rattle.std.proofs.Math.Seq.{sets, set-get_or, sets-eq}
+use Rattle.rules.specs.declared.FlashWord.{FlashWord}
+use Rattle.rules.specs.declared.Range.{Range}
+use Rattle.rules.specs.declared.Config.{Config}
 use Rattle.rules.specs.declared.State.{State}
-use Rattle.rules.specs.Code.{domains}
-use Rattle.rules.specs.Bytes.{word_at, ranges_place, config_as_bytes}
+use Rattle.rules.specs.Memory.{trusted}
+use Rattle.rules.specs.Code.{domains, ordered}
+use Rattle.rules.specs.State.{good_state}
+use Rattle.rules.specs.Bytes.{word_at, ranges_place, ranges_as_bytes, bounds_as_bytes, config_as_bytes}
 use Rattle.rules.specs.Slot.{slot_bytes, config_part, run_part, bound_place, safepointer_place, domain_place, zero_part, config_in, state_in, run_as_bytes, slot_of}
 use Rattle.laws.proofs.Parts.{get_or-sets-after}
-use Rattle.laws.proofs.Frames.{word_of_bytes}
+use Rattle.laws.proofs.Tests.{each}
+use Rattle.laws.proofs.Good.{GoodState, good_state-facts, domain≤trusted, bot<heap}
+use Rattle.laws.proofs.Frames.{word_of_bytes, AllBytes, byte_at}
 use Rattle.laws.proofs.Bytes.{Bytes, length-config_as_bytes, length-ranges_at, word_drop, word_from, config_back, word_again, config_again}
 
 -- the bytes behind the configuration
@@ -21,6 +29,34 @@ parts s = refl
 pub length-slot_of : (s : State) → length s.config.ranges ≡ domains → length (slot_of s) ≡ slot_bytes
 length-slot_of s eight =
     rw (parts s, length-append (config_as_bytes s.config) (behind s)) (omega (arith, length-config_as_bytes s.config eight))
+
+-- ---- a good state's slot holds bytes
+
+bytes-append : (xs ys : List ℕ) → AllBytes xs → AllBytes ys → AllBytes (xs ++ ys)
+bytes-append [] ys h k = k
+bytes-append (x ∷ xs) ys h k = (h.0, bytes-append xs ys h.1 k)
+
+-- "start <= end <= jt", and jt is of sixteen bits
+ranges_bytes : (jt : FlashWord) (rs : List Range) → jt.0 < 65536 → ordered jt rs ≡ true → AllBytes (ranges_as_bytes rs)
+unfolding ranges_as_bytes ordered
+ranges_bytes jt [] h o = tt
+ranges_bytes jt (r ∷ rs) h o =
+    let (a, (b, more)) = each (leb r.start.0 r.end.0) (leb r.end.0 jt.0 ∷ ordered jt rs ∷ []) o in
+    let l : r.start.0 ≤ r.end.0 = leb-true r.start.0 r.end.0 a in
+    let u : r.end.0 ≤ jt.0 = leb-true r.end.0 jt.0 b in
+    (omega arith, (omega arith, (omega arith, (omega arith, ranges_bytes jt rs h more))))
+
+pub slot_of-bytes : (s : State) → good_state s ≡ true → Bytes (slot_of s)
+slot_of-bytes s h =
+    let g : GoodState s = good_state-facts s h in
+    let c : Config = s.config in
+    let d : s.domain ≤ trusted = domain≤trusted g in
+    rw (parts s)
+    (byte_at (config_as_bytes c ++ behind s)
+    (bytes-append (config_as_bytes c) (behind s)
+    (bytes-append (bounds_as_bytes c) (ranges_as_bytes c.ranges) (omega (arith, bot<heap g.config))
+    (ranges_bytes c.jt c.ranges (omega arith) g.config.ranges_ordered))
+    (omega arith)))
 
 -- ---- unpacking a packed state
 

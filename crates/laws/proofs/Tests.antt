@@ -1,7 +1,8 @@
 -- Tests: deciding by one, and taking a conjunction or a disjunction apart.
 -- Assumes nothing.
-use Rattle.std.proofs.Common.{◌≡◌, refl, List, [], ◌∷◌, Bool, true, false, ◌&&◌, ◌||◌, true≢false}
+use Rattle.std.proofs.Common.{◌≡◌, refl, sym, ◌∙◌, List, [], ◌∷◌, Bool, true, false, not, ◌&&◌, ◌||◌, true≢false}
 use Rattle.std.proofs.Math.Bool.{and-false, false≢true}
+use borrow.Author.Tests.{not-true, not-false}
 
 -- a goal by the two outcomes of a test
 pub by_test : {C : Type 0} (t : Bool) → (t ≡ true → C) → (t ≡ false → C) → C
@@ -45,6 +46,13 @@ each t (u ∷ us) h = split t u us (each (t && u) us h)
     split : (t u : Bool) (us : List Bool) → Each (t && u) us → (t ≡ true) × Each u us
     split true u us e = (refl, e)
     split false u us e = absurd (false≢true (first false us e))
+
+-- a function answered r, its rule says t, and the caller tested r
+pub failed : {r t : Bool} → r ≡ t → not r ≡ true → t ≡ false
+failed {r} e h = sym e ∙ not-true r h
+
+pub passed : {r t : Bool} → r ≡ t → not r ≡ false → t ≡ true
+passed {r} e h = sym e ∙ not-false r h
 
 -- a conjunction by one of its sides
 pub left_false : (a b : Bool) → a ≡ false → (a && b) ≡ false

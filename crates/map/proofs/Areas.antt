@@ -11,9 +11,10 @@ use lib.ListN.{length, get_or, replicate, length-replicate, get_or-replicate}
 use lib.Seq.{ext_get_or}
 use borrow.Author.Tests.{ltb-true, ltb-false, leb-true, leb-false}
 use Rattle.std.proofs.lemmas.Bool.Decides.{nat_tests}
+use Rattle.rules.specs.declared.RamByte.{RamByte}
 use Rattle.rules.specs.declared.Config.{Config}
 use Rattle.rules.specs.Memory.{ram_bytes, layout_of, radix, divided_up, blocks, heap_block, safe_block, map_bytes, map_bytes_for, per_byte, map_byte, code_of, set_codes, start_code, later_code, free_code, trusted}
-use Rattle.address.specs.Places.{to_whole}
+use Rattle.address.specs.Places.{map_at, to_whole}
 use Rattle.rules.specs.SetUp.{set_up_code, set_up_codes, set_up_ram}
 use Rattle.laws.proofs.AllBelow.{AllBelow, all_replicate}
 use Rattle.laws.proofs.Codes.{domain_at, trusted_domain, start_code_lt, later_code_lt, free_code_lt, length-set_up_codes, set_up_codes-below, start_trusted}
@@ -21,6 +22,20 @@ use Rattle.laws.proofs.Good.{GoodConfig, heap_block_pos, heap_block≤safe_block
 use Rattle.laws.proofs.Map.{Bytes, length-set_codes, set_codes-bytes, set_codes-outside, codes_inside, codes_outside, byte_by_codes}
 use Rattle.laws.proofs.SetUp.{set_up_ram_code}
 use Rattle.laws.proofs.Tests.{by_test}
+
+-- ---- a run of one code
+
+module _ (bot : RamByte) (ram : List ℕ) (k n v j : ℕ) (small : v < radix (map_at bot)) where
+  in_run_lem : k ≤ j → j < k + n → map_byte (map_at bot) j < length ram → code_of (map_at bot) (set_codes (map_at bot) ram k (replicate n v)) j ≡ v
+  in_run_lem from to inside =
+      let at : k + (j - k) ≡ j = omega arith in
+      (rw at at (codes_inside (map_at bot) ram k (replicate n v) (j - k) (all_replicate (radix (map_at bot)) n v small) (rw length-replicate (omega arith)) (rw at inside)))
+      ∙ get_or-replicate n (j - k) v 0 (omega arith)
+
+  out_of_run : (k ≤ j → k + n ≤ j) → code_of (map_at bot) (set_codes (map_at bot) ram k (replicate n v)) j ≡ code_of (map_at bot) ram j
+  out_of_run out = codes_outside (map_at bot) ram k (replicate n v) j (all_replicate (radix (map_at bot)) n v small) (rw length-replicate out)
+
+-- ---- the layers
 
 -- h, s and t are where the heap, the safe stack area and the unused halves start, of which there are o
 by_areas : (j h s t o free later start other : ℕ) → start ≡ free → 0 < h → h ≤ s → s ≤ t → j < t + o
@@ -57,14 +72,10 @@ module _ (c : Config) (g : GoodConfig c) (ram : List ℕ) (sized : length ram �
         rw e (written x k (replicate n v) h below (rw length-replicate room)),
         λ j l.
             let inside : map_byte (layout_of c) j < length x = rw h.long (omega (arith, place<heap g l, g.heap≤safe, g.safe≤top, g.top≤ram)) in
-            let out : (k ≤ j → k + n ≤ j) → code_of (layout_of c) (set_codes (layout_of c) x k (replicate n v)) j ≡ code_of (layout_of c) x j =
-            λ o. codes_outside (layout_of c) x k (replicate n v) j below (rw length-replicate o) in
+            let out = out_of_run c.bot x k n v j small in
             rw e (by_test (leb k j)
             (λ t. by_test (ltb j (k + n))
-            (λ u. let from : k ≤ j = leb-true k j t in
-            let to : j < k + n = ltb-true j (k + n) u in
-            let at : k + (j - k) ≡ j = omega arith in
-            rw (t, u) ((rw at at (codes_inside (layout_of c) x k (replicate n v) (j - k) below (rw length-replicate (omega arith)) (rw at inside))) ∙ get_or-replicate n (j - k) v 0 (omega arith)))
+            (λ u. rw (t, u) (in_run_lem c.bot x k n v j small (leb-true k j t) (ltb-true j (k + n) u) inside))
             (λ u. rw (t, u) (out (λ _. ltb-false _ _ u))))
             (λ t. rw t (out (λ o. absurd (omega (arith, leb-false k j t)))))),
       )

@@ -32,6 +32,16 @@ module _ (bot : RamByte) (ram : List ℕ) (k at : ℕ) (place : at ≡ map_byte 
   unfolding code_of digit radix map_digit per_byte
   high_half odd byte = let one : k % 2 ≡ 1 = omega arith in rw (← place, one) (omega arith)
 
+  pub set-low : (v : ℕ) → k % 2 ≡ 0 → set ram at (get_or ram at 0 / 16 * 16 + v) ≡ set_code (map_at bot) ram k v
+  unfolding set_code set_digit radix map_digit per_byte
+  set-low v even = rw (place, even)
+
+  pub set-high : (v : ℕ) → (k % 2 ≡ 0 → ⊥) → get_or ram at 0 < 256 → set ram at (v * 16 + get_or ram at 0 % 16) ≡ set_code (map_at bot) ram k v
+  unfolding set_code set_digit radix map_digit per_byte
+  set-high v odd byte =
+      let one : k % 2 ≡ 1 = omega arith in
+      rw (← place, one) (ap (set ram at) (omega arith))
+
 -- both codes of a byte at once, from an even block on
 pub set_both : (bot : RamByte) (ram : List ℕ) (k at low high : ℕ) → at ≡ map_byte (map_at bot) k → k % 2 ≡ 0 → at < length ram → get_or ram at 0 < 256 → low < 16
     → set ram at (high * 16 + low) ≡ set_code (map_at bot) (set_code (map_at bot) ram k low) (suc k) high

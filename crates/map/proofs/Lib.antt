@@ -3,4 +3,5 @@ pub mod Areas
 pub mod Halves
 pub mod Runs
 pub mod Search
+pub mod Within
 pub mod Steps

@@ -1,20 +1,19 @@
 -- The steps of the loops over a run of blocks: what is left of a list of codes decides what RAM becomes.
 -- Assumes nothing.
-use Prim.Native.Nat.{ℕ, zero, suc, ◌+◌, ◌-◌, ◌*◌, ◌/◌, ◌%◌, ◌≤◌, ◌<◌}
+use Prim.Native.Nat.{ℕ, suc, ◌+◌, ◌-◌, ◌*◌, ◌/◌, ◌%◌, ◌≤◌, ◌<◌}
 use mathlib.Core.Path.{◌≡◌, refl, sym, ap, ◌∙◌}
-use mathlib.Core.List.{List, ◌∷◌}
+use mathlib.Core.List.{List, [], ◌∷◌}
 use native.Mathlib.Decide.{ℕ_discrete}
 use native.Mathlib.Omega.{arith}
 use mathlib.Core.Logic.{◌≢◌}
-use lib.ListN.{length, set, replicate, length-set, length-replicate, replicate-append-replicate, take-append-drop}
+use lib.ListN.{length, get_or, set, replicate, length-replicate, replicate-append-replicate}
 use lib.Dec.{ltb}
-use lib.Seq.{get_or-set_same, get_or-set_other, take-suc-set, drop-set-lt, drop-drop, append_snoc}
-use native.Mathlib.Nat.{add-suc, suc-add}
-use borrow.Rule.Slice.PartMut.{put_mid}
+use lib.Seq.{get_or-set_same, get_or-set_other}
 use borrow.Author.Tests.{ltb-true, ltb-false}
 use Rattle.rules.specs.declared.RamByte.{RamByte}
 use Rattle.rules.specs.declared.Config.{Config}
-use Rattle.rules.specs.Memory.{per_byte, layout_of, codes_of, safe_block, map_byte, code_of, set_code, set_codes, later_code, owner_of}
+use Rattle.rules.specs.Memory.{radix, per_byte, layout_of, codes_of, safe_block, map_byte, map_digit, code_of, set_code, set_codes, later_code, owner_of}
+use Rattle.rules.specs.State.{ram_byte}
 use Rattle.rules.specs.Free.{segment_blocks}
 use Rattle.laws.proofs.Tests.{by_test}
 use Rattle.laws.proofs.Map.{Bytes, set_codes-append}
@@ -24,22 +23,37 @@ use Rattle.map.proofs.Halves.{set_both}
 
 -- ---- writing one code to a run of blocks
 
--- the first of n whole bytes, and all of them
-filled_next : (ram : List ℕ) (at n b : ℕ) → at < length ram → put_mid at (suc n) ram (replicate (suc n) b) ≡ put_mid (suc at) n (set ram at b) (replicate n b)
-filled_next ram at n b inside =
-    rw (take-suc-set ram at b inside, drop-set-lt (suc at) ram at b (omega arith), append_snoc, drop-drop, drop-drop, add-suc, suc-add)
+-- the same places, counted from another byte on
+place_next : (b b' : RamByte) (k k' : ℕ) → map_byte (map_at b) k ≡ map_byte (map_at b') k' → map_digit (map_at b) k ≡ map_digit (map_at b') k'
+    → (map_byte (map_at b) (suc k) ≡ map_byte (map_at b') (suc k')) × (map_digit (map_at b) (suc k) ≡ map_digit (map_at b') (suc k'))
+unfolding map_byte map_digit per_byte
+place_next b b' k k' e f = (omega arith, omega arith)
 
-pub bytes_filled : (bot : RamByte) (ram : List ℕ) (k at n v : ℕ) → at ≡ map_byte (map_at bot) k → k % 2 ≡ 0 → at + n ≤ length ram → Bytes ram → v < 16
-    → put_mid at n ram (replicate n (v * 16 + v)) ≡ set_codes (map_at bot) ram k (replicate (n * 2) v)
-unfolding set_codes map_byte per_byte
-bytes_filled bot ram k at zero v place even fits bytes small = take-append-drop at ram
-bytes_filled bot ram k at (suc n) v place even fits bytes small =
-    let filled = set ram at (v * 16 + v) in
-    let inside : at < length ram = omega arith in
-    let bytes' : Bytes filled = λ i. elim (ℕ_discrete i at) [ yes e ↦ rw (e, get_or-set_same ram at (v * 16 + v) 0 inside) (omega arith) | no d ↦ rw get_or-set_other (bytes i) ] in
-    let two : suc n * 2 ≡ suc (suc (n * 2)) = omega arith in
-    filled_next ram at n _ inside ∙ bytes_filled bot filled (suc (suc k)) (suc at) n v (omega arith) (omega arith) (rw length-set (omega arith)) bytes' small
-    ∙ rw (two, set_both bot ram k at v v place even inside (bytes at) small)
+places_same : (b b' : RamByte) (ram : List ℕ) (k k' : ℕ) (vs : List ℕ) → map_byte (map_at b) k ≡ map_byte (map_at b') k' → map_digit (map_at b) k ≡ map_digit (map_at b') k'
+    → set_codes (map_at b) ram k vs ≡ set_codes (map_at b') ram k' vs
+unfolding set_codes set_code radix
+places_same b b' ram k k' [] e f = refl
+places_same b b' ram k k' (v ∷ vs) e f =
+    let (e', f') = place_next b b' k k' e f in
+    rw (e, f) (places_same b b' (set_code (map_at b') ram k' v) (suc k) (suc k') vs e' f')
+
+pub from_even : (b bot : RamByte) (ram : List ℕ) (k : ℕ) (vs : List ℕ) → b.0 ≡ map_byte (map_at bot) k → map_digit (map_at bot) k ≡ 0
+    → set_codes (map_at b) ram 0 vs ≡ set_codes (map_at bot) ram k vs
+unfolding map_byte map_digit per_byte
+from_even b bot ram k vs e f = places_same b bot ram 0 k vs (omega arith) (omega arith)
+
+-- whole bytes: the first, and those that are left
+pub bytes_next : (ram : List ℕ) (at left v : ℕ) → at < length ram → get_or ram at 0 < 256 → v < 16
+    → set_codes (map_at (ram_byte at)) ram 0 (replicate (suc left * 2) v) ≡ set_codes (map_at (ram_byte (at + 1))) (set ram at (v * 16 + v)) 0 (replicate (left * 2) v)
+unfolding set_codes map_byte map_digit per_byte
+bytes_next ram at left v inside byte small =
+    let two : suc left * 2 ≡ suc (suc (left * 2)) = omega arith in
+    let both = set_both (ram_byte at) ram 0 at v v (omega arith) refl inside byte small in
+    rw (two, both) (sym (from_even (ram_byte (at + 1)) (ram_byte at) (set_code (map_at (ram_byte at)) (set_code (map_at (ram_byte at)) ram 0 v) 1 v) 2 (replicate (left * 2) v) (omega arith) refl))
+
+pub bytes_stay : (ram : List ℕ) (at v : ℕ) → at < length ram → v < 256 → Bytes ram → Bytes (set ram at v)
+bytes_stay ram at v inside small bytes i =
+    elim (ℕ_discrete i at) [ yes e ↦ rw (e, get_or-set_same ram at v 0 inside) small | no d ↦ rw get_or-set_other (bytes i) ]
 
 -- the first m blocks, and those that are left
 pub run_parts : (bot : RamByte) (ram : List ℕ) (k m n v : ℕ) → m ≤ n

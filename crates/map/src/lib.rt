@@ -114,15 +114,21 @@ fn both(code: u8) -> u8
     code * RADIX + code
 }
 
-// The blocks of n whole bytes from an even one on, all of one code.
+// The blocks of n whole bytes from an even one on, all of one code. By hand, on places of sixteen bits and up to `!=`: the library's fill is
+// compiled to a call of memset, a name that an archive for C would need from outside.
 fn fill_bytes(bot: RamByte, ram: &mut Ram, k: Block, n: u16, code: u8)
     requires first_of_byte { map_digit (map_at bot) k.0 ≡ 0 }
     requires fits { map_byte (map_at bot) k.0 + n ≤ ram_bytes }
     requires is_code { code < radix (map_at bot) }
     ensures { ram.new ≡ set_codes (map_at bot) ram.old k.0 (replicate (n * per_byte (map_at bot)) code) }
 {
-    let at = map_byte(bot, k).0 as usize;
-    ram[at..at + n as usize].fill(both(code));
+    let byte = both(code);
+    let mut at = map_byte(bot, k).0;
+    let end = at + n;
+    while at != end {
+        ram[at as usize] = byte;
+        at += 1;
+    }
 }
 
 // n blocks from an even one on, all of one code: whole bytes, and a last block alone in its byte.

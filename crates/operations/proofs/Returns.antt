@@ -1,11 +1,11 @@
 -- Return: the frame that is read, and what a return gives.
 -- Assumes nothing.
 use Prim.Native.Nat.{ℕ, ◌-◌, ◌≤◌}
-use mathlib.Core.Path.{◌≡◌, refl}
+use mathlib.Core.Path.{◌≡◌, refl, ap}
 use mathlib.Core.Bool.{Bool, true, false, cond}
 use mathlib.Core.List.{List}
 use native.Mathlib.Omega.{arith}
-use lib.ListN.{length, get_or}
+use lib.ListN.{length, get_or, take}
 use lib.Dec.{eqb, leb, ltb}
 use lib.Seq.{slice, length-slice}
 use borrow.Author.Tests.{eq-eqb, ltb-false, leb-true}
@@ -28,7 +28,7 @@ use Rattle.rules.specs.Operations.{nothing, return_of}
 use Rattle.laws.proofs.Good.{good_state-facts, domain≤trusted}
 use Rattle.laws.proofs.Operations.{gives_below}
 use Rattle.operations.specs.ReturnRows.{caller_of, handed, returning}
-use Rattle.operations.proofs.SafeStack.{Area}
+use Rattle.operations.proofs.SafeStack.{Area, lent, slice_of}
 
 -- ---- the frame that is read
 
@@ -63,6 +63,10 @@ module _ (s : State) (ram : List ℕ) (f : Frame) (is : f ≡ top_frame s ram) w
         let n : length used ≡ s.safepointer.0 - s.config.safe.0 = length-slice s.config.safe.0 s.safepointer.0 ram (omega arith) in
         rw is
         (read_by (λ (f : Frame). length (frame_bytes f) ≤ s.safepointer.0) used (omega arith) (λ w h. omega arith) (λ w b d h t. omega arith))
+
+-- what is read from the part that is lent
+pub frame_read : (s : State) (ram : List ℕ) → Area s ram → read_frame (take (s.safepointer.0 - s.config.safe.0) (lent s ram)) ≡ top_frame s ram
+frame_read s ram a = ap read_frame (slice_of s.config.safe.0 s.safepointer.0 s.config.top.0 ram a.safe≤pointer a.pointer≤top)
 
 -- ---- what a return gives
 

@@ -5,8 +5,8 @@ use mathlib.Core.Path.{◌≡◌}
 use mathlib.Core.Bool.{true}
 use mathlib.Core.List.{List}
 use native.Mathlib.Omega.{arith}
-use lib.ListN.{length, take}
-use lib.Seq.{sets, slice}
+use lib.ListN.{length, take, length-drop}
+use lib.Seq.{sets, slice, length-take-le}
 use borrow.Rule.Slice.PartMut.{mid_of, put_mid}
 use Rattle.rules.specs.declared.State.{State}
 use Rattle.rules.specs.Memory.{ram_bytes}
@@ -24,6 +24,18 @@ pub area : (s : State) (ram : List ℕ) → length ram ≡ ram_bytes → good_st
 area s ram size good =
     let (_, _, from, to, top) = good_bounds s good in
     record { safe≤pointer = from; pointer≤top = to; top≤length = omega arith; top≤ram = top }
+
+-- the part that is lent
+abbrev pub lent : State → List ℕ → List ℕ
+lent s ram = mid_of s.config.safe.0 (s.config.top.0 - s.config.safe.0) ram
+
+pub lent_length : (s : State) (ram : List ℕ) → Area s ram → length (lent s ram) ≡ s.config.top.0 - s.config.safe.0
+lent_length s ram a =
+    length-take-le (s.config.top.0 - s.config.safe.0) _ (omega (arith, length-drop s.config.safe.0 ram))
+
+module _ (s : State) (ram : List ℕ) (a : Area s ram) (n : ℕ) (fits : s.safepointer.0 + n ≤ s.config.top.0) where
+  pub room : (s.safepointer.0 - s.config.safe.0 + n ≤ length (lent s ram)) × (length (lent s ram) ≤ ram_bytes)
+  room = rw (lent_length s ram a) (omega arith, omega arith)
 
 -- a run of stores from a place of the part on is that run in RAM
 pub put_from : (safe at k : ℕ) (ram vs : List ℕ) → safe ≤ at → at - safe + length vs ≤ k

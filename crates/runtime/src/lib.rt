@@ -8,6 +8,8 @@ ghost use Rattle.rules.specs.Answers.{Gives, moved};
 ghost use Rattle.rules.specs.SetUp.{set_up_of};
 ghost use Rattle.rules.specs.Operations.{lending, wrong_lent, operation_of, store_of, call_of, return_of, malloc_of, free_of, change_of};
 
+mod states;
+
 use good::{GoodConfig, GoodState};
 use operations::looked_at::{caller, domain_of, table_word, top_frame};
 use rules::{
@@ -44,7 +46,7 @@ fn try_set_up(config: Config, ram: &mut [u8]) -> Result<Done, Refusal>
 pub fn set_up(config: Config, ram: &mut [u8]) -> Outcome
     ensures { Gives result ram.new (set_up_of config ram.old) }
 {
-    handed_back(try_set_up(config, ram), State::default())
+    handed_back(try_set_up(config, ram), states::zeros())
 }
 
 // Section 5: what a call looks at beside the state, and the call.

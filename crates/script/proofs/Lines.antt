@@ -1,6 +1,6 @@
 -- The lines of a script's operations, one at a time: what the operation at a place decides.
 -- Assumes nothing.
-use Rattle.std.proofs.Common.{◌≡◌, ℕ, zero, suc, ◌+◌, ◌-◌, ◌≤◌, ◌<◌, List, [], ◌++◌, length, refl, sym, ap, ◌∙◌, sub-one, arith}
+use Rattle.std.proofs.Common.{◌≡◌, ℕ, zero, suc, ◌+◌, ◌-◌, ◌≤◌, ◌<◌, Bool, true, false, cond, List, [], ◌++◌, length, leb, leb-true, refl, sym, ap, ◌∙◌, sub-one, arith}
 use borrow.Author.Tests.{le-leb}
 use Rattle.std.proofs.lemmas.Bool.Decides.{nat_tests}
 use Rattle.rules.specs.declared.State.{State}
@@ -10,7 +10,8 @@ use Rattle.rules.specs.declared.Read.{Read}
 use Rattle.rules.specs.declared.Read.TheVariants.{Whole, Cut, End}
 use Rattle.rules.specs.Answers.{Given, Gives}
 use Rattle.rules.specs.Operations.{lending, operation_of}
-use Rattle.rules.specs.Script.{cut_text, operation_at, line_of, on_read, lines_from}
+use Rattle.rules.specs.Script.{cut_text, up_to, operation_at, line_of, on_read, lines_from}
+use Rattle.laws.proofs.Tests.{by_test}
 use Rattle.script.specs.declared.text.Text.{Text}
 use Rattle.script.specs.Text.{Adds, handed}
 use Rattle.script.specs.Run.{lines_at}
@@ -19,7 +20,22 @@ use Rattle.script.proofs.Texts.{adds_then}
 -- ---- where an operation ends
 
 module _ (input : List ℕ) where
-  -- what is whole ends behind its start, in the input
+  -- a reading that starts at a place before the end of the input: what is whole ends behind its start, in the input
+  abbrev Within : ℕ → Read → Type 0
+  Within at (Whole op next) = (at < next) × (next ≤ length input)
+  Within at Cut = at < length input
+  Within at End = length input ≤ at
+
+  up_to_within : (at next : ℕ) (op : Operation) → at < next → at < length input → Within at (up_to input next op)
+  up_to_within at next op h l =
+      by_test (leb next (length input)) (λ t. rw t (h, leb-true next (length input) t)) (λ t. rw t l)
+
+  -- one number's row, above what the others give
+  row_within : (t : Bool) (at next : ℕ) (op : Operation) (below : Read) → at < next → at < length input → Within at below
+      → Within at (cond t (up_to input next op) below)
+  row_within true at next op below h l w = up_to_within at next op h l
+  row_within false at next op below h l w = w
+
   pub whole_within : (at : ℕ) (op : Operation) (next : ℕ) → operation_at input at ≡ Whole op next → (at < next) × (next ≤ length input)
   unfolding operation_at
   whole_within at op next e = (grind (arith, nat_tests), grind (arith, nat_tests))
@@ -31,6 +47,14 @@ module _ (input : List ℕ) where
   pub end_within : (at : ℕ) → operation_at input at ≡ End → length input ≤ at
   unfolding operation_at
   end_within at e = grind (arith, nat_tests)
+
+  read_within : (at : ℕ) (r : Read) → operation_at input at ≡ r → Within at r
+  read_within at (Whole op next) e = whole_within at op next e
+  read_within at Cut e = cut_within at e
+  read_within at End e = end_within at e
+
+  pub operation_within : (at : ℕ) → Within at (operation_at input at)
+  operation_within at = read_within at (operation_at input at) refl
 
   past : (at : ℕ) → length input ≤ at → operation_at input at ≡ End
   unfolding operation_at
@@ -101,7 +125,7 @@ module _ (input table : List ℕ) where
         (enough (length input - at - 1) (length input - next) g.state g.ram next (count + 1) (omega arith) (omega arith))
 
 -- what an operation handed back makes the line that its rule gives
-line_given_lem : (count : ℕ) (o : Outcome) (ram : List ℕ) (g : Given) → Gives o ram g → line_of count (handed o) ≡ line_of count g
+pub line_given_lem : (count : ℕ) (o : Outcome) (ram : List ℕ) (g : Given) → Gives o ram g → line_of count (handed o) ≡ line_of count g
 unfolding line_of
 line_given_lem count o ram g (a, s, r) = rw (a, s)
 

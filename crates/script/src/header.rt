@@ -43,7 +43,6 @@ fn table_of(pairs: &[[u8; PAIR_BYTES]]) -> Option<Table>
 
 impl Header {
     // None for a wrong mark or version, a cut header or an index above 1023.
-    #[tactic(auto, using(crate::proofs::Headers::header_by_pairs))]
     pub fn parse(input: &[u8]) -> Option<Header>
         ensures { result ≡ header_of input.now }
     {
